@@ -1,0 +1,425 @@
+//! The state that a script is played on: tables by number, and rows by key, found by search.
+ghost use Rattle.std.specs.Prelude.{◌≡◌, ◌<◌, ◌≤◌, ◌+◌, ◌-◌, ◌^◌, ℕ, pos, [], ◌∷◌, ◌++◌, length, List, OnOk, OnErr, IfOk, IfSome, Some, None, map, position, filter, slice_set, slice_index_or};
+ghost use Rattle.std.specs.Str.{bytes_eq};
+ghost use Rattle.td_model.specs.State.{over, lay, row_at, with_row, raised, later, effect, step, empty_state};
+ghost use Rattle.td_model.specs.Verdict.{number_of, put_of, make_verdict, insert_verdict, select_verdict, verdict, picked, cell_of, cells_of, header, answer_from, answer};
+ghost use Rattle.td_top.specs.Turn.{laid_value, accepted_reply, IsOfTable, TurnIs, TurnAnswers};
+ghost use Rattle.std.specs.Option.{option_copied};
+ghost use lib.Chars.{codes};
+
+use std::alloc::Global;
+use std::collections::BTreeMap;
+use std::marker::Model;
+use td_layer::{Birth, Cell, Key, Name, NoMem, Row, Seq, Value};
+use td_model::{Cause, JournalLine, Kind, Mark, Put, Reply, Stmt, Verdict, What, in_range};
+
+/// The tables and their rows.
+#[derive(Drop)]
+pub struct Tables {
+    alloc: Global,
+    version: u64,
+    moment: u64,
+    names: Seq<Name>,
+    latest: Seq<Option<u64>>,
+    rows: BTreeMap<Key, Row>,
+}
+
+impl Model for Tables {
+    ghost use Rattle.std.specs.Prelude.{◌≡◌, ◌<◌, ◌^◌, length};
+    ghost use Rattle.td_model.specs.State.{State};
+
+    ghost Value = { State };
+
+    ghost view = { λ s. record { version = s.version; moment = s.moment; tables = s.names; latest = s.latest; rows = s.rows.entries } };
+
+    ghost invariant = { λ s. (length s.latest ≡ length s.names) × (length s.names < 2 ^ 32) };
+}
+
+/// What a statement's turn gives: its reply, and the line of its entry, if it has one.
+#[derive(Drop)]
+pub struct Turn {
+    pub reply: Reply,
+    pub line: Option<JournalLine>,
+}
+
+impl Tables {
+    /// No table yet. It takes no memory.
+    pub fn new(alloc: Global) -> Tables
+        ensures { result ≡ empty_state }
+    {
+        Tables {
+            alloc,
+            version: 0,
+            moment: 0,
+            names: Seq::new(alloc),
+            latest: Seq::new(alloc),
+            rows: BTreeMap::new(alloc),
+        }
+    }
+
+    // The number of the table of a name, from 1.
+    fn number(&self, name: &[u8]) -> Option<u32>
+        ensures { result ≡ number_of name.now self.now.tables }
+    {
+        match place_of(self.names.as_slice(), name) {
+            Some(at) => Some(at as u32 + 1),
+            None => None,
+        }
+    }
+
+    /// What a statement meets at a moment, or want of memory.
+    pub fn verdict(&self, stmt: &Stmt, moment: u64) -> Result<Verdict, NoMem>
+        ensures { IfOk result (λ v. v ≡ verdict stmt.now self.now moment) }
+    {
+        let table = self.number(b"t");
+        match *stmt {
+            Stmt::MakeTable => Ok(make_verdict(table)),
+            Stmt::Insert { ts, v } => {
+                let verdict = insert_verdict(self.alloc, table, ts, v)?;
+                Ok(verdict)
+            }
+            Stmt::Select => Ok(select_verdict(table)),
+        }
+    }
+
+    /// The rows that a query of the whole table answers, or want of memory.
+    pub fn answer(&self) -> Result<Seq<Seq<Cell>>, NoMem>
+        ensures { IfOk result (λ rows. rows ≡ answer self.now) }
+    {
+        match self.number(b"t") {
+            Some(table) => {
+                let rows = rows_of(self.alloc, &self.rows, table)?;
+                Ok(rows)
+            }
+            None => Ok(Seq::new(self.alloc)),
+        }
+    }
+}
+
+// The place of a name among the names.
+fn place_of(names: &[Name], name: &[u8]) -> Option<usize>
+    ensures value { result ≡ position (λ t. bytes_eq t name.now) names.now }
+    ensures within { IfSome result (λ at. at < length names.now) }
+{
+    names.iter().position(|t| t.as_slice() == name)
+}
+
+fn make_verdict(table: Option<u32>) -> Verdict
+    ensures { result ≡ make_verdict table }
+{
+    match table {
+        Some(_) => Verdict::Refuse(Cause::NameTaken),
+        None => Verdict::Accept(What::MakeTable, 0),
+    }
+}
+
+fn select_verdict(table: Option<u32>) -> Verdict
+    ensures { result ≡ select_verdict table }
+{
+    match table {
+        Some(_) => Verdict::Pass,
+        None => Verdict::Refuse(Cause::UnknownTable),
+    }
+}
+
+fn insert_verdict(alloc: Global, table: Option<u32>, ts: i128, v: i128) -> Result<Verdict, NoMem>
+    ensures { IfOk result (λ verdict. verdict ≡ insert_verdict table ts v) }
+{
+    match table {
+        Some(table) => {
+            let verdict = put_verdict(alloc, table, ts, v)?;
+            Ok(verdict)
+        }
+        None => Ok(Verdict::Refuse(Cause::UnknownTable)),
+    }
+}
+
+// What the values of an INSERT meet, where there is the table.
+fn put_verdict(alloc: Global, table: u32, ts: i128, v: i128) -> Result<Verdict, NoMem>
+    ensures { IfOk result (λ verdict. verdict ≡ put_of table ts v) }
+{
+    if !in_range(Kind::Time, ts) {
+        let column = Seq::of_bytes(alloc, b"ts")?;
+        return Ok(Verdict::Refuse(Cause::OutOfRange { column }));
+    }
+    if !in_range(Kind::I32, v) {
+        let column = Seq::of_bytes(alloc, b"v")?;
+        return Ok(Verdict::Refuse(Cause::OutOfRange { column }));
+    }
+    let key = Key {
+        table,
+        ts: ts as u64,
+    };
+    let cells = one_cell(alloc, Some(Value::Num(v)))?;
+    Ok(Verdict::Accept(What::Put(Put { key, cells }), 1))
+}
+
+fn one_cell(alloc: Global, cell: Option<Value>) -> Result<Seq<Option<Value>>, NoMem>
+    ensures { IfOk result (λ cells. cells ≡ cell ∷ []) }
+{
+    let mut cells = Seq::new(alloc);
+    if cells.push(cell).is_err() {
+        return Err(NoMem);
+    }
+    Ok(cells)
+}
+
+// The cells of each row of a table, by timestamp.
+fn rows_of(
+    alloc: Global,
+    rows: &BTreeMap<Key, Row>,
+    table: u32,
+) -> Result<Seq<Seq<Cell>>, NoMem>
+    ensures { IfOk result (λ all. all ≡ map cells_of (picked table rows.now.entries)) }
+{
+    let mut all = Seq::new(alloc);
+    for (key, row) in rows {
+        if key.table == table {
+            let cells = cells(alloc, key.ts, row.values.as_slice())?;
+            if all.push(cells).is_err() {
+                return Err(NoMem);
+            }
+        }
+    }
+    Ok(all)
+}
+
+// A timestamp, and the values after it.
+fn cells(alloc: Global, ts: u64, values: &[Value]) -> Result<Seq<Cell>, NoMem>
+    ensures { IfOk result (λ cells. cells ≡ Cell.Num (pos ts) ∷ map cell_of values.now) }
+{
+    let mut cells = Seq::new(alloc);
+    if cells.push(Cell::Num(i128::from(ts))).is_err() {
+        return Err(NoMem);
+    }
+    for value in values {
+        if cells.push(cell_of(*value)).is_err() {
+            return Err(NoMem);
+        }
+    }
+    Ok(cells)
+}
+
+fn cell_of(value: Value) -> Cell
+    ensures { result ≡ cell_of value }
+{
+    match value {
+        Value::Null => Cell::Null,
+        Value::Num(n) => Cell::Num(n),
+    }
+}
+
+// The names of the columns.
+fn header(alloc: Global) -> Result<Seq<Name>, NoMem>
+    ensures { IfOk result (λ names. names ≡ header) }
+{
+    let mut names = Seq::new(alloc);
+    let ts = Seq::of_bytes(alloc, b"ts")?;
+    if names.push(ts).is_err() {
+        return Err(NoMem);
+    }
+    let v = Seq::of_bytes(alloc, b"v")?;
+    if names.push(v).is_err() {
+        return Err(NoMem);
+    }
+    Ok(names)
+}
+
+// A named value, else the one below, else NULL.
+fn laid_value(cell: Option<Value>, below: Option<&Value>) -> Value
+    ensures { result ≡ laid_value cell (option_copied below.entry) }
+{
+    match cell {
+        Some(value) => value,
+        None => match below {
+            Some(value) => *value,
+            None => Value::Null,
+        },
+    }
+}
+
+// Named values over the values of a row.
+fn over(alloc: Global, cells: &[Option<Value>], values: &[Value]) -> Result<Seq<Value>, NoMem>
+    ensures { IfOk result (λ laid. laid ≡ over cells.now values.now) }
+{
+    let mut laid = Seq::new(alloc);
+    for (i, cell) in cells.iter().enumerate() {
+        if laid.push(laid_value(*cell, values.get(i))).is_err() {
+            return Err(NoMem);
+        }
+    }
+    Ok(laid)
+}
+
+// Cells laid over the row of their key, if there is one.
+fn lay(
+    alloc: Global,
+    cells: &[Option<Value>],
+    moment: u64,
+    row: Option<&Row>,
+) -> Result<Row, NoMem>
+    ensures { IfOk result (λ laid. laid ≡ lay cells.now moment (option_copied row.entry)) }
+{
+    match row {
+        Some(row) => {
+            let values = over(alloc, cells, row.values.as_slice())?;
+            Ok(Row {
+                birth: row.birth,
+                values,
+            })
+        }
+        None => {
+            let values = over(alloc, cells, &[])?;
+            let birth = Birth { born: moment };
+            Ok(Row { birth, values })
+        }
+    }
+}
+
+// The greater of two timestamps, of which the first may be missing.
+fn later(latest: Option<u64>, ts: u64) -> Option<u64>
+    ensures { result ≡ later latest ts }
+{
+    match latest {
+        None => Some(ts),
+        Some(latest) => Some(latest.max(ts)),
+    }
+}
+
+// Raises the greatest timestamp of a key's table.
+fn raise(latest: &mut Seq<Option<u64>>, key: Key)
+    requires { key.table - 1 < length latest.old }
+    ensures { latest.new ≡ raised latest.old key }
+{
+    let at = key.table.saturating_sub(1) as usize;
+    let raised = later(latest.as_slice()[at], key.ts);
+    latest.set(at, raised);
+}
+
+fn accepted_reply(what: &What, version: u64, rows: u32) -> Reply
+    ensures { result ≡ accepted_reply what.now version rows }
+{
+    match what {
+        What::MakeTable => Reply::Accepted { version },
+        What::Put(_) => Reply::AcceptedRows { version, rows },
+    }
+}
+
+impl Tables {
+    // Makes the one table.
+    fn make_table(&mut self) -> Result<(), NoMem>
+        ensures ok { OnOk result (self.new ≡ record self.old { tables = self.old.tables ++ codes "t" ∷ []; latest = self.old.latest ++ None ∷ [] }) }
+        ensures err { OnErr result (self.new ≡ self.old) }
+    {
+        if self.names.len() >= 4294967295 {
+            return Err(NoMem);
+        }
+        let name = Seq::of_bytes(self.alloc, b"t")?;
+        if self.latest.push(None).is_err() {
+            return Err(NoMem);
+        }
+        if self.names.push(name).is_err() {
+            let _ = self.latest.pop();
+            return Err(NoMem);
+        }
+        Ok(())
+    }
+
+    // Lays a row at a moment.
+    fn put(&mut self, put: &Put, moment: u64) -> Result<(), NoMem>
+        requires { put.now.key.table - 1 < length self.old.tables }
+        ensures ok { OnOk result (self.new ≡ record self.old { latest = raised self.old.latest put.now.key; rows = with_row put.now.key (lay put.now.cells moment (row_at put.now.key self.old.rows)) self.old.rows }) }
+        ensures err { OnErr result (self.new ≡ self.old) }
+    {
+        let row = lay(
+            self.alloc,
+            put.cells.as_slice(),
+            moment,
+            self.rows.get(&put.key),
+        )?;
+        self.rows.insert(put.key, row)?;
+        raise(&mut self.latest, put.key);
+        Ok(())
+    }
+
+    // Takes an accepted entry in at a moment.
+    fn accept(&mut self, moment: u64, what: &What) -> Result<(), NoMem>
+        requires version { self.old.version + 1 < 2 ^ 64 }
+        requires table { IsOfTable self.old what.now }
+        ensures ok { (session ordinal : ℕ) → OnOk result (self.new ≡ step self.old (record { session = session; ordinal = ordinal; moment = moment; what = what.now })) }
+        ensures err { OnErr result (self.new ≡ self.old) }
+    {
+        match what {
+            What::MakeTable => self.make_table()?,
+            What::Put(put) => self.put(put, moment)?,
+        }
+        self.version += 1;
+        self.moment = moment;
+        Ok(())
+    }
+
+    // What a query is answered.
+    fn answered(&self) -> Result<Turn, NoMem>
+        ensures { IfOk result (λ t. (t.reply ≡ Reply.Answer self.now.version header (answer self.now)) × (t.line ≡ None)) }
+    {
+        let rows = self.answer()?;
+        let header = header(self.alloc)?;
+        Ok(Turn {
+            reply: Reply::Answer {
+                prefix: self.version,
+                header,
+                rows,
+            },
+            line: None,
+        })
+    }
+
+    // One statement's turn, or want of memory, which changes nothing.
+    fn judged(&mut self, ordinal: u32, moment: u64, stmt: &Stmt) -> Result<Turn, NoMem>
+        requires { self.old.version + 1 < 2 ^ 64 }
+        ensures turn { IfOk result (λ t. TurnIs (Some (verdict stmt.now self.old moment)) self.old self.new ordinal moment t.reply t.line) }
+        ensures err { OnErr result (self.new ≡ self.old) }
+    {
+        match self.verdict(stmt, moment)? {
+            Verdict::Accept(what, rows) => {
+                self.accept(moment, &what)?;
+                Ok(Turn {
+                    reply: accepted_reply(&what, self.version, rows),
+                    line: Some(JournalLine {
+                        version: self.version,
+                        session: 1,
+                        ordinal,
+                        moment,
+                        mark: Mark::Plain,
+                    }),
+                })
+            }
+            Verdict::Pass => {
+                let turn = self.answered()?;
+                Ok(turn)
+            }
+            Verdict::Refuse(cause) => Ok(Turn {
+                reply: Reply::Refused {
+                    prefix: self.version,
+                    cause,
+                },
+                line: None,
+            }),
+        }
+    }
+
+    /// One statement's turn at a moment: what the verdict gives, or the reply that there was no memory, which changes
+    /// nothing.
+    pub fn turn(&mut self, ordinal: u32, moment: u64, stmt: &Stmt) -> Turn
+        requires { self.old.version + 1 < 2 ^ 64 }
+        ensures { TurnAnswers (verdict stmt.now self.old moment) self.old self.new ordinal moment result.reply result.line }
+    {
+        match self.judged(ordinal, moment, stmt) {
+            Ok(turn) => turn,
+            Err(NoMem) => Turn {
+                reply: Reply::NoMemory,
+                line: None,
+            },
+        }
+    }
+}
