@@ -1,7 +1,7 @@
 -- When a report tells the run of a script, from a state on.
 use Rattle.std.specs.Prelude.{◌≡◌, ℕ, ◌+◌, ◌-◌, ◌≤◌, ◌<◌, if◌then◌else◌, ◌==◌, List, [], ◌∷◌, map, Option, Some, None, option_and_then, slice_get, length}
-use Rattle.td_model.specs.declared.words.Stmt.{Stmt}
-use Rattle.td_model.specs.declared.words.Stmt.TheVariants as stmt
+use Rattle.td_model.specs.declared.words.Form.{Form}
+use Rattle.td_model.specs.declared.words.Form.TheVariants as form
 use Rattle.td_model.specs.declared.words.Entry.{Entry}
 use Rattle.td_model.specs.declared.words.Verdict.{Verdict}
 use Rattle.td_model.specs.declared.words.Verdict.TheVariants.{Accept, Pass, Refuse}
@@ -15,7 +15,7 @@ use Rattle.td_model.specs.State.{State, step, at, newest}
 use Rattle.td_model.specs.Verdict.{verdict, header, answer}
 
 -- The statement of a session and ordinal. So far a script is of session 1 alone, whose ordinals count from 1.
-abbrev pub statement_at : List Stmt → ℕ → ℕ → Option Stmt
+abbrev pub statement_at : List Form → ℕ → ℕ → Option Form
 statement_at script session ordinal = if session == 1 then slice_get script (ordinal - 1) else None
 
 -- the entry that a line of the journal stands for, where its statement is accepted
@@ -24,12 +24,12 @@ entry_if j (Accept what rows) = Some (record { session = j.session; ordinal = j.
 entry_if j Pass = None
 entry_if j (Refuse cause) = None
 
-abbrev pub entry_of : State → List Stmt → JournalLine → Option Entry
+abbrev pub entry_of : State → List Form → JournalLine → Option Entry
 entry_of s script j = option_and_then (λ q. entry_if j (verdict q s j.moment)) (statement_at script j.session j.ordinal)
 
 -- The history that the lines of a journal stand for, after the states so far: versions run on without gaps, moments don't
 -- fall, and each line's entry is what the verdict accepts for its statement in the state before it.
-abbrev pub IsHistory : List State → List Stmt → List JournalLine → List Entry → Type 0
+abbrev pub IsHistory : List State → List Form → List JournalLine → List Entry → Type 0
 IsHistory past script [] [] = Unit {0}
 IsHistory past script (j ∷ js) (e ∷ h) = (j.version ≡ (newest past).version + 1) × (j.mark ≡ mark.Plain) × ((newest past).moment ≤ j.moment) × (entry_of (newest past) script j ≡ Some e) × IsHistory (step (newest past) e ∷ past) script js h
 IsHistory past script [] (e ∷ h) = ⊥
@@ -45,16 +45,16 @@ IsPrefix b journal p = (b.version ≤ p) × (p ≤ b.version + length journal)
 
 -- What a reply to a statement says: an accepted one names its own line of the journal; a refused one the cause of the
 -- verdict in the state at its prefix; an answer the header and the rows of the query in the state at its prefix.
-abbrev pub Answers : State → List Entry → List JournalLine → ℕ → Stmt → Reply → Type 0
-Answers b h journal ordinal stmt.MakeTable (reply.Accepted v) = IsListed b journal v ordinal
-Answers b h journal ordinal (stmt.Insert ts v) (reply.AcceptedRows version rows) = IsListed b journal version ordinal × (rows ≡ 1)
-Answers b h journal ordinal stmt.Select (reply.Answer p names rows) = IsPrefix b journal p × (verdict stmt.Select (at b h p) 0 ≡ Pass) × (names ≡ header) × (rows ≡ answer (at b h p))
+abbrev pub Answers : State → List Entry → List JournalLine → ℕ → Form → Reply → Type 0
+Answers b h journal ordinal form.MakeTable (reply.Accepted v) = IsListed b journal v ordinal
+Answers b h journal ordinal (form.Insert ts v) (reply.AcceptedRows version rows) = IsListed b journal version ordinal × (rows ≡ 1)
+Answers b h journal ordinal form.Select (reply.Answer p names rows) = IsPrefix b journal p × (verdict form.Select (at b h p) 0 ≡ Pass) × (names ≡ header) × (rows ≡ answer (at b h p))
 Answers b h journal ordinal q (reply.Refused p cause) = IsPrefix b journal p × (verdict q (at b h p) 0 ≡ Refuse cause)
 Answers b h journal ordinal q reply.NoMemory = Unit {0}
 Answers b h journal ordinal q r = ⊥
 
 -- each statement, from an ordinal on, has its one reply
-abbrev pub EachAnswered : State → List Entry → List JournalLine → ℕ → List Stmt → List (ℕ × ℕ × Reply) → Type 0
+abbrev pub EachAnswered : State → List Entry → List JournalLine → ℕ → List Form → List (ℕ × ℕ × Reply) → Type 0
 EachAnswered b h journal n [] [] = Unit {0}
 EachAnswered b h journal n (q ∷ qs) (r ∷ rs) = (r.0 ≡ 1) × (r.1 ≡ n) × Answers b h journal n q r.2 × EachAnswered b h journal (n + 1) qs rs
 EachAnswered b h journal n [] (r ∷ rs) = ⊥
@@ -126,7 +126,7 @@ InOrder front [] = Unit {0}
 InOrder front (r ∷ rs) = NumberIs front r.2 × InOrder (front_after front r.2) rs
 
 -- The report tells the run of the script from b.
-pub record Told (b : State) (readings : Option (List ℕ)) (script : List Stmt) (r : Report) : Type 0 where
+pub record Told (b : State) (readings : Option (List ℕ)) (script : List Form) (r : Report) : Type 0 where
   -- the report begins with b's version
   pub base : r.base ≡ b.version
   -- the journal stands for one history, whose versions run on from b's without gaps
@@ -143,6 +143,6 @@ pub record Told (b : State) (readings : Option (List ℕ)) (script : List Stmt) 
   pub moments : Timed readings b.moment entries
 
 -- It tells them in the order of the lines: each reply has the number of the front that the lines before it left.
-pub record ToldInOrder (b : State) (readings : Option (List ℕ)) (script : List Stmt) (r : Report) : Type 0 where
+pub record ToldInOrder (b : State) (readings : Option (List ℕ)) (script : List Form) (r : Report) : Type 0 where
   pub told : Told b readings script r
   pub in_order : InOrder b.version r.replies

@@ -10,8 +10,8 @@ use Rattle.td_layer.specs.declared.values.Cell.{Cell}
 use Rattle.td_layer.specs.declared.values.Cell.TheVariants as cell
 use Rattle.td_layer.specs.declared.values.Row.{Row}
 use Rattle.td_model.specs.declared.kinds.Kind.TheVariants.{I32, Time}
-use Rattle.td_model.specs.declared.words.Stmt.{Stmt}
-use Rattle.td_model.specs.declared.words.Stmt.TheVariants as stmt
+use Rattle.td_model.specs.declared.words.Form.{Form}
+use Rattle.td_model.specs.declared.words.Form.TheVariants as form
 use Rattle.td_model.specs.declared.words.What.{What}
 use Rattle.td_model.specs.declared.words.What.TheVariants as what
 use Rattle.td_model.specs.declared.words.Verdict.{Verdict}
@@ -42,10 +42,10 @@ select_verdict None = Refuse UnknownTable
 select_verdict (Some table) = Pass
 
 -- what a statement meets in a state, at a moment
-abbrev pub verdict : Stmt → State → ℕ → Verdict
-verdict stmt.MakeTable s moment = make_verdict (number_of (codes "t") s.tables)
-verdict (stmt.Insert ts v) s moment = insert_verdict (number_of (codes "t") s.tables) ts v
-verdict stmt.Select s moment = select_verdict (number_of (codes "t") s.tables)
+abbrev pub verdict : Form → State → ℕ → Verdict
+verdict form.MakeTable s moment = make_verdict (number_of (codes "t") s.tables)
+verdict (form.Insert ts v) s moment = insert_verdict (number_of (codes "t") s.tables) ts v
+verdict form.Select s moment = select_verdict (number_of (codes "t") s.tables)
 
 -- the rows of a table, by timestamp
 abbrev pub picked : ℕ → Rows → Rows

@@ -11,8 +11,8 @@ use Rattle.std.proofs.Common.{arith}
 use lib.Chars.{codes}
 use Rattle.td_layer.specs.declared.values.Value.TheVariants as value
 use Rattle.td_layer.specs.declared.values.Cell.TheVariants.{Num}
-use Rattle.td_model.specs.declared.words.Stmt.{Stmt}
-use Rattle.td_model.specs.declared.words.Stmt.TheVariants as stmt
+use Rattle.td_model.specs.declared.words.Form.{Form}
+use Rattle.td_model.specs.declared.words.Form.TheVariants as form
 use Rattle.td_model.specs.declared.words.What.TheVariants as what
 use Rattle.td_model.specs.declared.words.Entry.{Entry}
 use Rattle.td_model.specs.declared.words.Verdict.TheVariants.{Accept, Pass, Refuse}
@@ -38,7 +38,7 @@ put_eight = record { session = 1; ordinal = 5; moment = 2000000000001; what = wh
 abbrev put_before : Entry
 put_before = record { session = 1; ordinal = 6; moment = 2000000000002; what = what.Put (record { key = record { table = 1; ts = 3 }; cells = Some (value.Num (negsuc 0)) ∷ [] }) }
 
-pub select_before : verdict stmt.Select empty_state 0 ≡ Refuse UnknownTable
+pub select_before : verdict form.Select empty_state 0 ≡ Refuse UnknownTable
 select_before = refl
 
 pub answered : answer (after empty_state (made ∷ put_seven ∷ [])) ≡ (Num (pos 5) ∷ Num (pos 7) ∷ []) ∷ []
@@ -55,11 +55,11 @@ kept = refl
 pub latest : (after empty_state (made ∷ put_seven ∷ put_before ∷ [])).latest ≡ Some 5 ∷ []
 latest = refl
 
-pub no_timestamp : verdict (stmt.Insert (negsuc 0) (pos 7)) (after empty_state (made ∷ [])) 0 ≡ Refuse (OutOfRange (codes "ts"))
+pub no_timestamp : verdict (form.Insert (negsuc 0) (pos 7)) (after empty_state (made ∷ [])) 0 ≡ Refuse (OutOfRange (codes "ts"))
 no_timestamp = refl
 
-abbrev six : List Stmt
-six = stmt.Select ∷ stmt.MakeTable ∷ stmt.Insert (pos 5) (pos 2147483648) ∷ stmt.Insert (pos 5) (pos 7) ∷ stmt.MakeTable ∷ stmt.Select ∷ []
+abbrev six : List Form
+six = form.Select ∷ form.MakeTable ∷ form.Insert (pos 5) (pos 2147483648) ∷ form.Insert (pos 5) (pos 7) ∷ form.MakeTable ∷ form.Select ∷ []
 
 abbrev listed_as : ℕ → ℕ → JournalLine
 listed_as version n = record { version = version; session = 1; ordinal = n; moment = 2000000000000; mark = mark.Plain }

@@ -15,4 +15,4 @@ mod words;
 pub use kinds::{Kind, in_range};
 pub use report::{Cause, JournalLine, Mark, Reply, Report};
 pub use td_layer::{Cell, Func};
-pub use words::{Entry, Put, Stmt, Verdict, What};
+pub use words::{Entry, Put, Form, Verdict, What};

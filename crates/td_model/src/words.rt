@@ -1,10 +1,11 @@
-//! Statements, verdicts and entries.
+//! Forms of statement, verdicts and entries.
 use crate::report::Cause;
 use td_layer::{Key, Seq, Value};
 
-/// What a line of a script asks. The forms so far are of one table, `t`, with its columns `ts` and `v`.
+/// What a line of a script asks: one of the forms of statement that are built. So far they are of one table, `t`, with its
+/// columns `ts` and `v`.
 #[derive(Clone, Copy, Debug, PartialEq, Eq)]
-pub enum Stmt {
+pub enum Form {
     MakeTable,
     Insert { ts: i128, v: i128 },
     Select,

@@ -3,7 +3,7 @@ use Rattle.std.proofs.Common.{◌≡◌, ◌≢◌, ◌⊎◌, inl, inr, ℕ, �
 use Rattle.std.proofs.lemmas.List.{append-nil, length-append}
 use Rattle.std.specs.Io.KnownBytes.{Consumes, IsAtEnd}
 use Rattle.td_outside.specs.Causes.{Rose}
-use Rattle.td_model.specs.declared.words.Stmt.{Stmt}
+use Rattle.td_model.specs.declared.words.Form.{Form}
 use Rattle.td_model.specs.Script.{IsStatement, IsScript, none, line, FirstOutside, here, later, NoLine}
 use Rattle.td_top.specs.declared.top.Status.{Status}
 use Rattle.td_top.specs.declared.top.Status.TheVariants as status
@@ -15,11 +15,11 @@ use Rattle.td_top.proofs.Grammar.{parted_here, statement_lacks}
 one_rest : (o : Option (List ℕ × List ℕ)) (a b x y : List ℕ) → o ≡ Some (a, x) → o ≡ Some (b, y) → x ≡ y
 one_rest o a b x y d e = ap (λ (r : Option (List ℕ × List ℕ)). (unwrap_or r ([], [])).1) (sym d ∙ e)
 
-same_rest : (a b x y : List ℕ) (p q : Stmt) → IsStatement a p → IsStatement b q → a ++ 10 ∷ x ≡ b ++ 10 ∷ y → x ≡ y
+same_rest : (a b x y : List ℕ) (p q : Form) → IsStatement a p → IsStatement b q → a ++ 10 ∷ x ≡ b ++ 10 ∷ y → x ≡ y
 same_rest a b x y p q h k e = one_rest (parted_at 10 (a ++ 10 ∷ x)) a b x y (parted_here 10 a x (statement_lacks a p h)) (ap (parted_at 10) e ∙ parted_here 10 b y (statement_lacks b q k))
 
 -- no script has a first line outside the forms
-apart : (bytes bytes' : List ℕ) (n : ℕ) (script : List Stmt) → bytes ≡ bytes' → FirstOutside bytes n → IsScript bytes' script → ⊥
+apart : (bytes bytes' : List ℕ) (n : ℕ) (script : List Form) → bytes ≡ bytes' → FirstOutside bytes n → IsScript bytes' script → ⊥
 apart bytes bytes' n script e (here b some missing) none = some e
 apart bytes bytes' n script e (here b some missing) (line text rest q qs st more) = missing text rest q e st
 apart bytes bytes' n script e (later text rest q k st outside) none = absurd (omega (arith, ap length e, length-append text (10 ∷ rest)))
@@ -48,7 +48,7 @@ too_few : (left left' : Option (List ℕ)) (bytes read : List ℕ) → left ≡ 
 too_few left left' bytes read known much whole = omega (arith, whole.few, ap length (known_bytes left left' bytes read known whole))
 
 module _ (readings : Option (List ℕ)) (before after : Outside) where
-  done_says : (s : Status) → Says readings before after s → (bytes : List ℕ) (script : List Stmt) → before.left ≡ Some bytes → IsScript bytes script → length bytes ≤ 67108864 → ¬ (Rose before.input_faults after.input_faults) → ¬ (Rose before.output_faults after.output_faults) → IsUnlessMemory s status.Done
+  done_says : (s : Status) → Says readings before after s → (bytes : List ℕ) (script : List Form) → before.left ≡ Some bytes → IsScript bytes script → length bytes ≤ 67108864 → ¬ (Rose before.input_faults after.input_faults) → ¬ (Rose before.output_faults after.output_faults) → IsUnlessMemory s status.Done
   done_says status.Done says bytes script known is few steady calm = inl refl
   done_says status.NoMemory says bytes script known is few steady calm = inr refl
   done_says status.Usage says bytes script known is few steady calm = absurd says

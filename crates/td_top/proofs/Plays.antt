@@ -1,7 +1,7 @@
 -- A run of turns, one after another.
 use Rattle.std.proofs.Common.{◌≡◌, ◌⊎◌, inl, inr, ℕ, ◌+◌, ◌≤◌, ◌<◌, take, get_or, List, [], ◌∷◌, ◌++◌, length, Option, Some, None, refl, sym, ap, ◌∙◌, subst, arith}
 use Rattle.std.proofs.lemmas.List.{append_assoc, append-nil, take_more, length-take-le}
-use Rattle.td_model.specs.declared.words.Stmt.{Stmt}
+use Rattle.td_model.specs.declared.words.Form.{Form}
 use Rattle.td_model.specs.declared.report.JournalLine.{JournalLine}
 use Rattle.td_model.specs.declared.report.Reply.{Reply}
 use Rattle.td_model.specs.declared.words.Verdict.{Verdict}
@@ -17,18 +17,18 @@ Judged None w = Unit {0}
 Judged (Some v) w = v ≡ w
 
 -- From s and an ordinal, with moments that have P at their ordinals, these statements have these replies and lines, and lead to t.
-abbrev pub Plays : (ℕ → ℕ → Type 0) → ℕ → State → List Stmt → List (ℕ × ℕ × Reply) → List JournalLine → State → Type 0
+abbrev pub Plays : (ℕ → ℕ → Type 0) → ℕ → State → List Form → List (ℕ × ℕ × Reply) → List JournalLine → State → Type 0
 Plays P n s [] [] js t = (js ≡ []) × (t ≡ s)
 Plays P n s (q ∷ qs) (r ∷ rs) js t = (m : ℕ) × ((s.moment ≤ m) × P n m) × (v : Option Verdict) × Judged v (verdict q s m) × (r ≡ reply_line_at n (reply_of v s)) × (rest : List JournalLine) × (js ≡ as_list (line_then v s n m) ++ rest) × Plays P (n + 1) (state_then v s n m) qs rs rest t
 Plays P n s [] (r ∷ rs) js t = ⊥
 Plays P n s (q ∷ qs) [] js t = ⊥
 
 -- one turn alone
-one_turn : (P : ℕ → ℕ → Type 0) (n m : ℕ) (s : State) (q : Stmt) (v : Option Verdict) → Judged v (verdict q s m) → s.moment ≤ m → P n m → Plays P n s (q ∷ []) (reply_line_at n (reply_of v s) ∷ []) (as_list (line_then v s n m)) (state_then v s n m)
+one_turn : (P : ℕ → ℕ → Type 0) (n m : ℕ) (s : State) (q : Form) (v : Option Verdict) → Judged v (verdict q s m) → s.moment ≤ m → P n m → Plays P n s (q ∷ []) (reply_line_at n (reply_of v s) ∷ []) (as_list (line_then v s n m)) (state_then v s n m)
 one_turn P n m s q v j l ok = (m, (l, ok), v, j, refl, [], sym (append-nil _), (refl, refl))
 
 -- one more turn at the end
-pub plays_more : (P : ℕ → ℕ → Type 0) (n : ℕ) (s : State) (qs : List Stmt) (rs : List (ℕ × ℕ × Reply)) (js : List JournalLine) (t : State) (q : Stmt) (v : Option Verdict) (k m : ℕ) → Plays P n s qs rs js t → Judged v (verdict q t m) → k ≡ n + length qs → t.moment ≤ m → P k m → Plays P n s (qs ++ q ∷ []) (rs ++ reply_line_at k (reply_of v t) ∷ []) (js ++ as_list (line_then v t k m)) (state_then v t k m)
+pub plays_more : (P : ℕ → ℕ → Type 0) (n : ℕ) (s : State) (qs : List Form) (rs : List (ℕ × ℕ × Reply)) (js : List JournalLine) (t : State) (q : Form) (v : Option Verdict) (k m : ℕ) → Plays P n s qs rs js t → Judged v (verdict q t m) → k ≡ n + length qs → t.moment ≤ m → P k m → Plays P n s (qs ++ q ∷ []) (rs ++ reply_line_at k (reply_of v t) ∷ []) (js ++ as_list (line_then v t k m)) (state_then v t k m)
 plays_more P n s [] [] js t q v k m h j e l ok =
     let same : k ≡ n = omega arith in
     let early : s.moment ≤ m = subst (λ (x : State). x.moment ≤ m) h.1 l in
@@ -54,13 +54,13 @@ moment_then (Some (Refuse cause)) s n m l = l
 moment_then None s n m l = l
 
 -- what a turn of the next statement leaves
-pub record TurnLeft (P : ℕ → ℕ → Type 0) (script : List Stmt) (i m : ℕ) (b t' : State) (rs' : List (ℕ × ℕ × Reply)) (js' : List JournalLine) (version : ℕ) : Type 0 where
+pub record TurnLeft (P : ℕ → ℕ → Type 0) (script : List Form) (i m : ℕ) (b t' : State) (rs' : List (ℕ × ℕ × Reply)) (js' : List JournalLine) (version : ℕ) : Type 0 where
   pub played : Plays P 1 b (take (i + 1) script) rs' js' t'
   pub floor : t'.moment ≤ m
   pub counted : t'.version ≤ version + 1
 
 -- the next statement of a script
-module _ (P : ℕ → ℕ → Type 0) (script : List Stmt) (i m : ℕ) (d : Stmt) (b t : State) (t' : State) (rs rs' : List (ℕ × ℕ × Reply)) (js js' : List JournalLine) (line : Option JournalLine) (r : Reply) (h : Plays P 1 b (take i script) rs js t) (l : i < length script) (early : t.moment ≤ m) (ok : P (i + 1) m) (replies : rs' ≡ rs ++ reply_line_at (i + 1) r ∷ []) (journal : js' ≡ js ++ as_list line) where
+module _ (P : ℕ → ℕ → Type 0) (script : List Form) (i m : ℕ) (d : Form) (b t : State) (t' : State) (rs rs' : List (ℕ × ℕ × Reply)) (js js' : List JournalLine) (line : Option JournalLine) (r : Reply) (h : Plays P 1 b (take i script) rs js t) (l : i < length script) (early : t.moment ≤ m) (ok : P (i + 1) m) (replies : rs' ≡ rs ++ reply_line_at (i + 1) r ∷ []) (journal : js' ≡ js ++ as_list line) where
   by_verdict : (v : Option Verdict) → Judged v (verdict (get_or script i d) t m) → TurnIs v t t' (i + 1) m r line → TurnLeft P script i m b t' rs' js' t.version
   by_verdict v judged turn =
       let count : length (take i script) ≡ i = length-take-le i script (omega arith) in

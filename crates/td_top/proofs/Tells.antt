@@ -2,8 +2,8 @@
 use Rattle.std.proofs.Common.{◌≡◌, ℕ, zero, suc, ◌+◌, ◌-◌, ◌≤◌, ◌<◌, ◌==◌, Bool, true, false, cond, List, [], ◌∷◌, ◌++◌, length, take, map, Option, Some, None, slice_get, pos, negsuc, ℤ, refl, sym, ap, ◌∙◌, subst, arith}
 use Rattle.std.proofs.lemmas.List.{append_assoc, length-append, take_at, append-nil}
 use Rattle.td_layer.specs.declared.values.Value.TheVariants as value
-use Rattle.td_model.specs.declared.words.Stmt.{Stmt}
-use Rattle.td_model.specs.declared.words.Stmt.TheVariants as stmt
+use Rattle.td_model.specs.declared.words.Form.{Form}
+use Rattle.td_model.specs.declared.words.Form.TheVariants as form
 use Rattle.td_model.specs.declared.words.What.{What}
 use Rattle.td_model.specs.declared.words.What.TheVariants as what
 use Rattle.td_model.specs.declared.words.Entry.{Entry}
@@ -24,39 +24,39 @@ use Rattle.td_top.specs.Turn.{reply_of, accepted_reply, state_then, line_then, a
 use Rattle.td_top.proofs.Plays.{Plays, Judged}
 
 -- which verdicts a statement may have
-abbrev pub Fits : Stmt → Verdict → Type 0
-Fits stmt.MakeTable (Accept what.MakeTable rows) = Unit {0}
-Fits stmt.MakeTable (Accept (what.Put p) rows) = ⊥
-Fits stmt.MakeTable Pass = ⊥
-Fits stmt.MakeTable (Refuse cause) = Unit {0}
-Fits (stmt.Insert x y) (Accept what.MakeTable rows) = ⊥
-Fits (stmt.Insert x y) (Accept (what.Put p) rows) = rows ≡ 1
-Fits (stmt.Insert x y) Pass = ⊥
-Fits (stmt.Insert x y) (Refuse cause) = Unit {0}
-Fits stmt.Select (Accept w rows) = ⊥
-Fits stmt.Select Pass = Unit {0}
-Fits stmt.Select (Refuse cause) = Unit {0}
+abbrev pub Fits : Form → Verdict → Type 0
+Fits form.MakeTable (Accept what.MakeTable rows) = Unit {0}
+Fits form.MakeTable (Accept (what.Put p) rows) = ⊥
+Fits form.MakeTable Pass = ⊥
+Fits form.MakeTable (Refuse cause) = Unit {0}
+Fits (form.Insert x y) (Accept what.MakeTable rows) = ⊥
+Fits (form.Insert x y) (Accept (what.Put p) rows) = rows ≡ 1
+Fits (form.Insert x y) Pass = ⊥
+Fits (form.Insert x y) (Refuse cause) = Unit {0}
+Fits form.Select (Accept w rows) = ⊥
+Fits form.Select Pass = Unit {0}
+Fits form.Select (Refuse cause) = Unit {0}
 
 abbrev put_at : ℕ → ℕ → ℤ → Verdict
 put_at table ts v = Accept (what.Put (record { key = record { table = table; ts = ts }; cells = Some (value.Num v) ∷ [] })) 1
 
-put_fits : (x y : ℤ) (table : ℕ) (ts v : ℤ) → Fits (stmt.Insert x y) (put_of table ts v)
+put_fits : (x y : ℤ) (table : ℕ) (ts v : ℤ) → Fits (form.Insert x y) (put_of table ts v)
 put_fits x y table (negsuc n) v = tt
-put_fits x y table (pos ts) v = elim (is_in_range Time (pos ts)) as (λ a. Fits (stmt.Insert x y) (cond a (cond (is_in_range I32 v) (put_at table ts v) (Refuse (OutOfRange (codes "v")))) (Refuse (OutOfRange (codes "ts"))))) [
-  | true ↦ elim (is_in_range I32 v) as (λ b. Fits (stmt.Insert x y) (cond b (put_at table ts v) (Refuse (OutOfRange (codes "v"))))) [ true ↦ refl | false ↦ tt ]
+put_fits x y table (pos ts) v = elim (is_in_range Time (pos ts)) as (λ a. Fits (form.Insert x y) (cond a (cond (is_in_range I32 v) (put_at table ts v) (Refuse (OutOfRange (codes "v")))) (Refuse (OutOfRange (codes "ts"))))) [
+  | true ↦ elim (is_in_range I32 v) as (λ b. Fits (form.Insert x y) (cond b (put_at table ts v) (Refuse (OutOfRange (codes "v"))))) [ true ↦ refl | false ↦ tt ]
   | false ↦ tt
 ]
 
-fits : (q : Stmt) (s : State) (m : ℕ) → Fits q (verdict q s m)
-fits stmt.MakeTable s m = elim (number_of (codes "t") s.tables) as (λ o. Fits stmt.MakeTable (make_verdict o)) [ None ↦ tt | Some n ↦ tt ]
-fits (stmt.Insert x y) s m = elim (number_of (codes "t") s.tables) as (λ o. Fits (stmt.Insert x y) (insert_verdict o x y)) [ None ↦ tt | Some n ↦ put_fits x y n x y ]
-fits stmt.Select s m = elim (number_of (codes "t") s.tables) as (λ o. Fits stmt.Select (select_verdict o)) [ None ↦ tt | Some n ↦ tt ]
+fits : (q : Form) (s : State) (m : ℕ) → Fits q (verdict q s m)
+fits form.MakeTable s m = elim (number_of (codes "t") s.tables) as (λ o. Fits form.MakeTable (make_verdict o)) [ None ↦ tt | Some n ↦ tt ]
+fits (form.Insert x y) s m = elim (number_of (codes "t") s.tables) as (λ o. Fits (form.Insert x y) (insert_verdict o x y)) [ None ↦ tt | Some n ↦ put_fits x y n x y ]
+fits form.Select s m = elim (number_of (codes "t") s.tables) as (λ o. Fits form.Select (select_verdict o)) [ None ↦ tt | Some n ↦ tt ]
 
 -- the moment has no part in it yet
-timeless : (q : Stmt) (s : State) (m k : ℕ) → verdict q s m ≡ verdict q s k
-timeless stmt.MakeTable s m k = refl
-timeless (stmt.Insert x y) s m k = refl
-timeless stmt.Select s m k = refl
+timeless : (q : Form) (s : State) (m k : ℕ) → verdict q s m ≡ verdict q s k
+timeless form.MakeTable s m k = refl
+timeless (form.Insert x y) s m k = refl
+timeless form.Select s m k = refl
 
 trail_push : (past : List State) (h : List Entry) (e : Entry) → trail past (h ++ e ∷ []) ≡ step (newest (trail past h)) e ∷ trail past h
 trail_push past [] e = refl
@@ -89,21 +89,21 @@ module _ (b s : State) (older : List State) (h0 : List Entry) (j0 : List Journal
   listed_here : (n m : ℕ) (rest : List JournalLine) → IsListed b (j0 ++ line_at (s.version + 1) n m ∷ rest) (s.version + 1) n
   listed_here n m rest = (line_at (s.version + 1) n m, slice_get_at j0 _ rest _ (omega (arith, begins.version, begins.lines)), omega (arith, begins.version), refl, refl, refl)
 
-  judged_here : (q : Stmt) (v : Verdict) (m : ℕ) (h : List Entry) → verdict q s m ≡ v → verdict q (at b (h0 ++ h) s.version) 0 ≡ v
+  judged_here : (q : Form) (v : Verdict) (m : ℕ) (h : List Entry) → verdict q s m ≡ v → verdict q (at b (h0 ++ h) s.version) 0 ≡ v
   judged_here q v m h e = ap (λ x. verdict q x 0) (at_here h) ∙ timeless q s 0 m ∙ e
 
-  answered : (q : Stmt) (v : Verdict) (n m : ℕ) (h : List Entry) (rest : List JournalLine) → verdict q s m ≡ v → Fits q v → Answers b (h0 ++ h) (j0 ++ (as_list (line_then (Some v) s n m) ++ rest)) n q (reply_of (Some v) s)
-  answered stmt.MakeTable (Accept what.MakeTable rows) n m h rest e f = listed_here n m rest
-  answered stmt.MakeTable (Accept (what.Put p) rows) n m h rest e f = absurd f
-  answered stmt.MakeTable Pass n m h rest e f = absurd f
-  answered stmt.MakeTable (Refuse cause) n m h rest e f = (prefix_here rest, judged_here stmt.MakeTable (Refuse cause) m h e)
-  answered (stmt.Insert x y) (Accept what.MakeTable rows) n m h rest e f = absurd f
-  answered (stmt.Insert x y) (Accept (what.Put p) rows) n m h rest e f = (listed_here n m rest, f)
-  answered (stmt.Insert x y) Pass n m h rest e f = absurd f
-  answered (stmt.Insert x y) (Refuse cause) n m h rest e f = (prefix_here rest, judged_here (stmt.Insert x y) (Refuse cause) m h e)
-  answered stmt.Select (Accept w rows) n m h rest e f = absurd f
-  answered stmt.Select Pass n m h rest e f = (prefix_here rest, judged_here stmt.Select Pass m h e, refl, ap answer (sym (at_here h)))
-  answered stmt.Select (Refuse cause) n m h rest e f = (prefix_here rest, judged_here stmt.Select (Refuse cause) m h e)
+  answered : (q : Form) (v : Verdict) (n m : ℕ) (h : List Entry) (rest : List JournalLine) → verdict q s m ≡ v → Fits q v → Answers b (h0 ++ h) (j0 ++ (as_list (line_then (Some v) s n m) ++ rest)) n q (reply_of (Some v) s)
+  answered form.MakeTable (Accept what.MakeTable rows) n m h rest e f = listed_here n m rest
+  answered form.MakeTable (Accept (what.Put p) rows) n m h rest e f = absurd f
+  answered form.MakeTable Pass n m h rest e f = absurd f
+  answered form.MakeTable (Refuse cause) n m h rest e f = (prefix_here rest, judged_here form.MakeTable (Refuse cause) m h e)
+  answered (form.Insert x y) (Accept what.MakeTable rows) n m h rest e f = absurd f
+  answered (form.Insert x y) (Accept (what.Put p) rows) n m h rest e f = (listed_here n m rest, f)
+  answered (form.Insert x y) Pass n m h rest e f = absurd f
+  answered (form.Insert x y) (Refuse cause) n m h rest e f = (prefix_here rest, judged_here (form.Insert x y) (Refuse cause) m h e)
+  answered form.Select (Accept w rows) n m h rest e f = absurd f
+  answered form.Select Pass n m h rest e f = (prefix_here rest, judged_here form.Select Pass m h e, refl, ap answer (sym (at_here h)))
+  answered form.Select (Refuse cause) n m h rest e f = (prefix_here rest, judged_here form.Select (Refuse cause) m h e)
 
   begins_next : (n m : ℕ) (w : What) → Begins b (step s (entry_at n m w)) (s ∷ older) (h0 ++ entry_at n m w ∷ []) (j0 ++ line_at (s.version + 1) n m ∷ [])
   begins_next n m w = record {
@@ -113,10 +113,10 @@ module _ (b s : State) (older : List State) (h0 : List Entry) (j0 : List Journal
   }
 
 -- a statement that met no memory has a reply all the same
-starved : (b : State) (h : List Entry) (journal : List JournalLine) (n : ℕ) (q : Stmt) → Answers b h journal n q reply.NoMemory
-starved b h journal n stmt.MakeTable = tt
-starved b h journal n (stmt.Insert x y) = tt
-starved b h journal n stmt.Select = tt
+starved : (b : State) (h : List Entry) (journal : List JournalLine) (n : ℕ) (q : Form) → Answers b h journal n q reply.NoMemory
+starved b h journal n form.MakeTable = tt
+starved b h journal n (form.Insert x y) = tt
+starved b h journal n form.Select = tt
 
 -- each entry's moment has P at an ordinal as far on as the entry
 abbrev pub Moments : (ℕ → ℕ → Type 0) → ℕ → List Entry → Type 0
@@ -130,18 +130,18 @@ moments_more P n x h ok later zero e is = let same : x ≡ e = cc in (n, omega a
 moments_more P n x h ok later (suc k) e is = let found = later k e is in (found.0, omega (arith, found.1), found.2)
 
 -- The rest of a run, told from where it begins.
-abbrev Outcome : (ℕ → ℕ → Type 0) → State → List Stmt → List Stmt → List Entry → List JournalLine → State → List State → ℕ → List (ℕ × ℕ × Reply) → List JournalLine → Type 0
+abbrev Outcome : (ℕ → ℕ → Type 0) → State → List Form → List Form → List Entry → List JournalLine → State → List State → ℕ → List (ℕ × ℕ × Reply) → List JournalLine → Type 0
 Outcome P b front qs h0 j0 s older n rs js = (h : List Entry) × IsHistory (s ∷ older) (front ++ qs) js h × Moments P n h × EachAnswered b (h0 ++ h) (j0 ++ js) n qs rs
 
 -- the lines of the journal name statements of the script
-module _ (b s : State) (front qs : List Stmt) (q : Stmt) (n m : ℕ) (place : n ≡ length front + 1) where
+module _ (b s : State) (front qs : List Form) (q : Form) (n m : ℕ) (place : n ≡ length front + 1) where
   statement_here : statement_at (front ++ q ∷ qs) 1 n ≡ Some q
   statement_here = slice_get_at front q qs (n - 1) (omega arith)
 
   entry_here : (w : What) (rows : ℕ) → verdict q s m ≡ Accept w rows → entry_of s (front ++ q ∷ qs) (line_at (s.version + 1) n m) ≡ Some (entry_at n m w)
   entry_here w rows e = rw (statement_here, e) refl
 
-module _ (P : ℕ → ℕ → Type 0) (b s : State) (older : List State) (front qs : List Stmt) (q : Stmt) (h0 : List Entry) (j0 : List JournalLine) (n m : ℕ) (r : (ℕ × ℕ × Reply)) (rs : List (ℕ × ℕ × Reply)) (js rest : List JournalLine) (begins : Begins b s older h0 j0) (place : n ≡ length front + 1) where
+module _ (P : ℕ → ℕ → Type 0) (b s : State) (older : List State) (front qs : List Form) (q : Form) (h0 : List Entry) (j0 : List JournalLine) (n m : ℕ) (r : (ℕ × ℕ × Reply)) (rs : List (ℕ × ℕ × Reply)) (js rest : List JournalLine) (begins : Begins b s older h0 j0) (place : n ≡ length front + 1) where
   -- a turn without an entry
   kept : (v : Option Verdict) → r ≡ reply_line_at n (reply_of v s) → js ≡ rest → ((h : List Entry) → Answers b (h0 ++ h) (j0 ++ rest) n q (reply_of v s)) → Outcome P b (front ++ q ∷ []) qs h0 j0 s older (n + 1) rs rest → Outcome P b front (q ∷ qs) h0 j0 s older n (r ∷ rs) js
   kept v reply lines answers later =
@@ -170,7 +170,7 @@ record InRun (s : State) (n : ℕ) (rs : List (ℕ × ℕ × Reply)) (js : List 
   numbers : NeverFalling s.version rs
 
 module _ (P : ℕ → ℕ → Type 0) (b : State) where
-  told_from : (front qs : List Stmt) (h0 : List Entry) (j0 : List JournalLine) (s t : State) (older : List State) (n : ℕ) (rs : List (ℕ × ℕ × Reply)) (js : List JournalLine) → Begins b s older h0 j0 → n ≡ length front + 1 → Plays P n s qs rs js t → Outcome P b front qs h0 j0 s older n rs js
+  told_from : (front qs : List Form) (h0 : List Entry) (j0 : List JournalLine) (s t : State) (older : List State) (n : ℕ) (rs : List (ℕ × ℕ × Reply)) (js : List JournalLine) → Begins b s older h0 j0 → n ≡ length front + 1 → Plays P n s qs rs js t → Outcome P b front qs h0 j0 s older n rs js
   told_from front [] h0 j0 s t older n [] js begins place p = rw p.0 ([], tt, (λ k e is. cc), tt)
   told_from front [] h0 j0 s t older n (r ∷ rs) js begins place p = absurd p
   told_from front (q ∷ qs) h0 j0 s t older n [] js begins place p = absurd p
@@ -192,7 +192,7 @@ module _ (P : ℕ → ℕ → Type 0) (b : State) where
       ] p.3 p.4 p.6 p.7
 
   -- the numbers of the replies run with the front, and the journal lists the accepted ones, each once
-  in_order_from : (qs : List Stmt) (s t : State) (n : ℕ) (rs : List (ℕ × ℕ × Reply)) (js : List JournalLine) → Plays P n s qs rs js t → InRun s n rs js
+  in_order_from : (qs : List Form) (s t : State) (n : ℕ) (rs : List (ℕ × ℕ × Reply)) (js : List JournalLine) → Plays P n s qs rs js t → InRun s n rs js
   in_order_from [] s t n [] js p = rw p.0 (record { order = tt; own = refl; rising = λ k l. tt; numbers = tt })
   in_order_from [] s t n (r ∷ rs) js p = absurd p
   in_order_from (q ∷ qs) s t n [] js p = absurd p
@@ -211,7 +211,7 @@ module _ (P : ℕ → ℕ → Type 0) (b : State) where
             rw (reply, lines) (record { order = (tt, later.order); own = later.own; rising = λ k l. later.rising k (omega arith); numbers = (tt, later.numbers) })
       ] p.4 p.6 p.7
 
-  pub told_of_plays : (readings : Option (List ℕ)) → ((h : List Entry) → Moments P 1 h → Timed readings b.moment h) → (qs : List Stmt) (rs : List (ℕ × ℕ × Reply)) (js : List JournalLine) (t : State) → Plays P 1 b qs rs js t → ToldInOrder b readings qs (record { base = b.version; replies = rs; journal = js })
+  pub told_of_plays : (readings : Option (List ℕ)) → ((h : List Entry) → Moments P 1 h → Timed readings b.moment h) → (qs : List Form) (rs : List (ℕ × ℕ × Reply)) (js : List JournalLine) (t : State) → Plays P 1 b qs rs js t → ToldInOrder b readings qs (record { base = b.version; replies = rs; journal = js })
   told_of_plays readings times qs rs js t p =
       let all = told_from [] qs [] [] b t [] 1 rs js (record { states = refl; version = omega arith; lines = refl }) refl p in
       let run = in_order_from qs b t 1 rs js p in

@@ -4,7 +4,7 @@ use Rattle.std.specs.Str.{bytes_eq}
 use lib.Chars.{codes}
 use Rattle.std.specs.Io.KnownBytes.{Appends, Keeps}
 use Rattle.td_outside.specs.Causes.{Rose}
-use Rattle.td_model.specs.declared.words.Stmt.{Stmt}
+use Rattle.td_model.specs.declared.words.Form.{Form}
 use Rattle.td_model.specs.declared.report.Report.{Report}
 use Rattle.td_model.specs.State.{empty_state}
 use Rattle.td_model.specs.Script.{IsScript, FirstOutside}
@@ -42,7 +42,7 @@ outside left input_faults written output_faults = record { left = left; input_fa
 pub record Tells (readings left left' : Option (List ℕ)) (text : List ℕ) : Type 0 where
   pub bytes : List ℕ
   pub read : ReadWhole left left' bytes
-  pub script : List Stmt
+  pub script : List Form
   pub is_script : IsScript bytes script
   pub report : Report
   pub told : ToldInOrder empty_state readings script report
@@ -79,7 +79,7 @@ IsUnlessMemory s wanted = (s ≡ wanted) ⊎ (s ≡ status.NoMemory)
 -- Over a source that tells its bytes and doesn't fail, the bytes determine the status, but for want of memory and a sink that fails.
 pub record Completes (before after : Outside) (s : Status) : Type 0 where
   -- a script within the limit is played, where the sink doesn't fail either
-  pub done : (bytes : List ℕ) (script : List Stmt) → before.left ≡ Some bytes → IsScript bytes script → length bytes ≤ 67108864 → ¬ (Rose before.input_faults after.input_faults) → ¬ (Rose before.output_faults after.output_faults) → IsUnlessMemory s status.Done
+  pub done : (bytes : List ℕ) (script : List Form) → before.left ≡ Some bytes → IsScript bytes script → length bytes ≤ 67108864 → ¬ (Rose before.input_faults after.input_faults) → ¬ (Rose before.output_faults after.output_faults) → IsUnlessMemory s status.Done
   -- the first line outside the forms is named
   pub not_built : (bytes : List ℕ) (line : ℕ) → before.left ≡ Some bytes → FirstOutside bytes line → length bytes ≤ 67108864 → ¬ (Rose before.input_faults after.input_faults) → IsUnlessMemory s (status.NotBuilt line)
   -- too many bytes are too large, whatever they are

@@ -7,7 +7,7 @@ ghost use Rattle.td_top.specs.Fault.{FaultIs};
 
 use std::alloc::Global;
 use td_layer::Seq;
-use td_model::Stmt;
+use td_model::Form;
 
 /// Why bytes were not read as a script.
 #[derive(Clone, Copy, Debug, PartialEq, Eq)]
@@ -89,23 +89,23 @@ fn group(text: &[u8]) -> Option<(i128, i128)>
 }
 
 #[tactic(auto, unfolding(crate::specs::Parse::insert_of))]
-fn insert(text: &[u8]) -> Option<Stmt>
+fn insert(text: &[u8]) -> Option<Form>
     ensures { result ≡ insert_of text.now }
 {
     let rest = follows(text, b"1: INSERT INTO t VALUES (")?;
     let (ts, v) = group(rest)?;
-    Some(Stmt::Insert { ts, v })
+    Some(Form::Insert { ts, v })
 }
 
 /// The statement that a line without its line feed is.
 #[tactic(auto, unfolding(crate::specs::Parse::statement_of))]
-fn statement(text: &[u8]) -> Option<Stmt>
+fn statement(text: &[u8]) -> Option<Form>
     ensures { result ≡ statement_of text.now }
 {
     if text == b"1: CREATE TABLE t (ts TIMESTAMP, v INT)".as_slice() {
-        Some(Stmt::MakeTable)
+        Some(Form::MakeTable)
     } else if text == b"1: SELECT * FROM t".as_slice() {
-        Some(Stmt::Select)
+        Some(Form::Select)
     } else {
         insert(text)
     }
@@ -113,7 +113,7 @@ fn statement(text: &[u8]) -> Option<Stmt>
 
 // The first line, and what follows it.
 #[tactic(auto, unfolding(crate::specs::Parse::line_of))]
-fn line(bytes: &[u8]) -> Option<(Stmt, &[u8])>
+fn line(bytes: &[u8]) -> Option<(Form, &[u8])>
     ensures { option_map (λ p. (p.0, p.1.now)) result ≡ line_of bytes.now }
 {
     let (text, rest) = parted(bytes, b'\n')?;
@@ -122,7 +122,7 @@ fn line(bytes: &[u8]) -> Option<(Stmt, &[u8])>
 }
 
 /// The statements of a script.
-pub fn script_of(alloc: Global, bytes: &[u8]) -> Result<Seq<Stmt>, ScriptFault>
+pub fn script_of(alloc: Global, bytes: &[u8]) -> Result<Seq<Form>, ScriptFault>
     ensures script { IfOk result (λ script. IsScript bytes.now script) }
     ensures few { IfOk result (λ script. length script ≤ length bytes.now) }
     ensures fault { IfErr result (λ fault. FaultIs bytes.now fault) }

@@ -11,7 +11,7 @@ use std::alloc::Global;
 use std::collections::BTreeMap;
 use std::marker::Model;
 use td_layer::{Birth, Cell, Key, Name, NoMem, Row, Seq, Value};
-use td_model::{Cause, JournalLine, Kind, Mark, Put, Reply, Stmt, Verdict, What, in_range};
+use td_model::{Cause, JournalLine, Kind, Mark, Put, Reply, Form, Verdict, What, in_range};
 
 /// The tables and their rows.
 #[derive(Drop)]
@@ -68,17 +68,17 @@ impl Tables {
     }
 
     /// What a statement meets at a moment, or want of memory.
-    pub fn verdict(&self, stmt: &Stmt, moment: u64) -> Result<Verdict, NoMem>
-        ensures { IfOk result (λ v. v ≡ verdict stmt.now self.now moment) }
+    pub fn verdict(&self, form: &Form, moment: u64) -> Result<Verdict, NoMem>
+        ensures { IfOk result (λ v. v ≡ verdict form.now self.now moment) }
     {
         let table = self.number(b"t");
-        match *stmt {
-            Stmt::MakeTable => Ok(make_verdict(table)),
-            Stmt::Insert { ts, v } => {
+        match *form {
+            Form::MakeTable => Ok(make_verdict(table)),
+            Form::Insert { ts, v } => {
                 let verdict = insert_verdict(self.alloc, table, ts, v)?;
                 Ok(verdict)
             }
-            Stmt::Select => Ok(select_verdict(table)),
+            Form::Select => Ok(select_verdict(table)),
         }
     }
 
@@ -375,12 +375,12 @@ impl Tables {
     }
 
     // One statement's turn, or want of memory, which changes nothing.
-    fn judged(&mut self, ordinal: u32, moment: u64, stmt: &Stmt) -> Result<Turn, NoMem>
+    fn judged(&mut self, ordinal: u32, moment: u64, form: &Form) -> Result<Turn, NoMem>
         requires { self.old.version + 1 < 2 ^ 64 }
-        ensures turn { IfOk result (λ t. TurnIs (Some (verdict stmt.now self.old moment)) self.old self.new ordinal moment t.reply t.line) }
+        ensures turn { IfOk result (λ t. TurnIs (Some (verdict form.now self.old moment)) self.old self.new ordinal moment t.reply t.line) }
         ensures err { OnErr result (self.new ≡ self.old) }
     {
-        match self.verdict(stmt, moment)? {
+        match self.verdict(form, moment)? {
             Verdict::Accept(what, rows) => {
                 self.accept(moment, &what)?;
                 Ok(Turn {
@@ -410,11 +410,11 @@ impl Tables {
 
     /// One statement's turn at a moment: what the verdict gives, or the reply that there was no memory, which changes
     /// nothing.
-    pub fn turn(&mut self, ordinal: u32, moment: u64, stmt: &Stmt) -> Turn
+    pub fn turn(&mut self, ordinal: u32, moment: u64, form: &Form) -> Turn
         requires { self.old.version + 1 < 2 ^ 64 }
-        ensures { TurnAnswers (verdict stmt.now self.old moment) self.old self.new ordinal moment result.reply result.line }
+        ensures { TurnAnswers (verdict form.now self.old moment) self.old self.new ordinal moment result.reply result.line }
     {
-        match self.judged(ordinal, moment, stmt) {
+        match self.judged(ordinal, moment, form) {
             Ok(turn) => turn,
             Err(NoMem) => Turn {
                 reply: Reply::NoMemory,

@@ -14,7 +14,7 @@ use std::alloc::Global;
 use std::sync::Wait;
 use std::thread::Threads;
 use td_layer::{NoMem, Seq};
-use td_model::{JournalLine, Reply, Report, Stmt};
+use td_model::{JournalLine, Reply, Report, Form};
 use td_outside::{Clock, Failed, Gate, Place, Sink, Source};
 
 /// How the program ends.
@@ -62,7 +62,7 @@ fn push_line(journal: &mut Seq<JournalLine>, line: Option<JournalLine>) -> Resul
 
 /// Plays the statements of a script in their order, from no table on. The moments are the clock's readings, and don't
 /// fall where these do. The answer is the report, or want of memory for it.
-pub fn play_script<C: Clock>(alloc: Global, script: &[Stmt], clock: &mut C) -> Result<Report, NoMem>
+pub fn play_script<C: Clock>(alloc: Global, script: &[Form], clock: &mut C) -> Result<Report, NoMem>
     requires { length script.now < 2 ^ 32 }
     ensures { IfOk result (λ r. ToldInOrder empty_state (C.readings clock.old) script.now r) }
 {
@@ -70,11 +70,11 @@ pub fn play_script<C: Clock>(alloc: Global, script: &[Stmt], clock: &mut C) -> R
     let mut replies = Seq::new(alloc);
     let mut journal = Seq::new(alloc);
     let mut floor = 0;
-    for (i, stmt) in script.iter().enumerate() {
+    for (i, form) in script.iter().enumerate() {
         let ordinal = i as u32 + 1;
         let moment = clock.now().max(floor);
         floor = moment;
-        let turn = tables.turn(ordinal, moment, stmt);
+        let turn = tables.turn(ordinal, moment, form);
         push_reply(&mut replies, ordinal, turn.reply)?;
         push_line(&mut journal, turn.line)?;
     }
