@@ -4,7 +4,6 @@ use Rattle.std.specs.Int.{w128, cast_signed}
 use Rattle.byteorder.specs.Endian.{little_bytes, little_number, low_bytes, twos_complement}
 use Rattle.td_cols.specs.declared.kinds.Kind.{Kind}
 use Rattle.td_cols.specs.Kinds.{kind_width, kind_is_signed, is_in_range}
-use Rattle.td_cols.specs.Lanes.{is_lane_width, fits_lane}
 
 -- the number v in so many bytes: the lowest of its two's complement
 unfoldable pub spelling_in : ℕ → ℤ → List ℕ
@@ -32,12 +31,6 @@ AreBytes bytes = (i : ℕ) → slice_index bytes i < 256
 -- spelling of a number in range spells that number, and bytes of the width are the spelling of the number
 -- that they spell. So bytes spell a number of the kind exactly where the number that they spell is in range.
 pub record HasOneSpelling (kind : Kind) : Type 0 where
-  pub width : (v : ℤ) → length (spelling kind v) ≡ kind_width kind
+  pub as_wide : (v : ℤ) → length (spelling kind v) ≡ kind_width kind
   pub spelled : (v : ℤ) → IsTrue (is_in_range kind v) → number_spelled kind (spelling kind v) ≡ v
   pub respelled : (bytes : List ℕ) → AreBytes bytes → length bytes ≡ kind_width kind → spelling kind (number_spelled kind bytes) ≡ bytes
-
--- the same of a lane's numbers, of width bytes each
-pub record LaneHasOneSpelling (width : ℕ) (signed : Bool) : Type 0 where
-  pub width_ : (v : ℤ) → length (spelling_in width v) ≡ width
-  pub spelled : (v : ℤ) → IsTrue (fits_lane width signed v) → number_in signed (spelling_in width v) ≡ v
-  pub respelled : (bytes : List ℕ) → AreBytes bytes → length bytes ≡ width → spelling_in width (number_in signed bytes) ≡ bytes

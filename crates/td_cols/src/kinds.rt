@@ -1,7 +1,7 @@
 // The kinds of a column, and the calls that take one.
 ghost use Rattle.std.specs.Prelude.{◌≡◌, ◌<◌, length, IsTrue};
 ghost use Rattle.td_cols.specs.Kinds.{kind_code, kind_width, kind_is_signed, kind_least, kind_most, is_in_range};
-ghost use Rattle.td_cols.specs.Spelling.{spelling, number_spelled};
+ghost use Rattle.td_cols.specs.Spelling.{spelling, number_spelled, HasOneSpelling};
 
 use crate::bytes::{read_number, write_number};
 
@@ -92,6 +92,7 @@ pub fn in_range(kind: Kind, v: i128) -> bool
     form.least <= v && v <= form.most
 }
 
+#[tactic(auto, using(crate::proofs::KindWidths::kind_width_few, crate::proofs::KindWidths::kind_width_some))]
 /// Writes the one spelling of the number `v` of the kind over `out`, which has the kind's width. No number
 /// of a text is in range, so the kind is none.
 pub fn store(kind: Kind, v: i128, out: &mut [u8])
@@ -103,6 +104,7 @@ pub fn store(kind: Kind, v: i128, out: &mut [u8])
     write_number(v, out);
 }
 
+#[tactic(auto, using(crate::proofs::KindWidths::kind_width_few))]
 /// The number that `bytes` of the kind's width spell, which is a number of the kind exactly where it is in
 /// range: 7 for the byte 7 of a `Bool`, which spells no truth value. The kind isn't a text.
 pub fn load(kind: Kind, bytes: &[u8]) -> i128
@@ -112,4 +114,11 @@ pub fn load(kind: Kind, bytes: &[u8]) -> i128
     ensures stored { spelling kind result ≡ bytes.now }
 {
     read_number(bytes, form_of(kind).signed)
+}
+
+#[tactic(auto, using(crate::proofs::OneSpelling::kind_spelling))]
+/// A law: numbers in range and spellings of a kind belong to each other one to one.
+pub fn one_spelling(kind: Kind)
+    ensures { HasOneSpelling kind }
+{
 }
