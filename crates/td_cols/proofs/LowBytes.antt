@@ -28,8 +28,8 @@ little_bytes-number (x ∷ xs) bytes =
     let low : (x + 256 * m) % 256 ≡ x = omega arith in
     let high : (x + 256 * m) / 256 ≡ m = omega arith in
     let rest : bytes_low_first 1 (length xs) (x + 256 * m) ≡ xs =
-        bytes_low_first-suc 0 (length xs) (x + 256 * m) ∙ ap (little_bytes (length xs)) high
-        ∙ little_bytes-number xs (λ i. bytes (suc i)) in
+    bytes_low_first-suc 0 (length xs) (x + 256 * m) ∙ ap (little_bytes (length xs)) high
+    ∙ little_bytes-number xs (λ i. bytes (suc i)) in
     ap (λ (n : ℕ). little_bytes (suc (length xs)) (x + 256 * n)) moved ∙ cc
 
 -- a number that fits is read back from its bytes

@@ -76,18 +76,18 @@ signed_fits h half v e fits =
 signed_lane : {width h m q : ℕ} → HasNumbers width h m q → LaneHasOneSpelling width true
 unfolding number_in fits_lane lane_least lane_most
 signed_lane {width} {h} {m} {q} n = record {
-    as_wide = length-spelling_in width;
-    spelled = λ v fits.
-        let ends = signed_fits h (2 ^ (8 * width - 1)) v n.half fits in
-        ap (λ (k : ℕ). twos_complement k (little_number (length (spelling_in width v)) (spelling_in width v))) (length-spelling_in width v)
-        ∙ ap (twos_complement width) (low_bytes-read n v)
-        ∙ twos_complement-is n (cast_unsigned w128 v % m)
-        ∙ signed_of-low h m q v n.whole n.parts n.some ends.0 ends.1;
-    respelled = λ bytes are wide.
-        respelled_from n (number_in true bytes) bytes are wide
-        (ap (λ (k : ℕ). cast_unsigned w128 (twos_complement k (little_number k bytes)) % m) wide
-         ∙ ap (λ (z : ℤ). cast_unsigned w128 z % m) (twos_complement-is n (little_number width bytes))
-         ∙ low-signed h m q (little_number width bytes) n.whole n.parts n.some (number-below n bytes are wide))
+  as_wide = length-spelling_in width;
+  spelled = λ v fits.
+      let ends = signed_fits h (2 ^ (8 * width - 1)) v n.half fits in
+      ap (λ (k : ℕ). twos_complement k (little_number (length (spelling_in width v)) (spelling_in width v))) (length-spelling_in width v)
+      ∙ ap (twos_complement width) (low_bytes-read n v)
+      ∙ twos_complement-is n (cast_unsigned w128 v % m)
+      ∙ signed_of-low h m q v n.whole n.parts n.some ends.0 ends.1;
+  respelled = λ bytes are wide.
+      respelled_from n (number_in true bytes) bytes are wide
+      (ap (λ (k : ℕ). cast_unsigned w128 (twos_complement k (little_number k bytes)) % m) wide
+      ∙ ap (λ (z : ℤ). cast_unsigned w128 z % m) (twos_complement-is n (little_number width bytes))
+      ∙ low-signed h m q (little_number width bytes) n.whole n.parts n.some (number-below n bytes are wide));
 }
 
 -- a number from 0 below t
@@ -98,19 +98,19 @@ unsigned_fits t (negsuc n) any fits = absurd (cc)
 unsigned_lane : {width h m q : ℕ} → HasNumbers width h m q → LaneHasOneSpelling width false
 unfolding number_in fits_lane lane_least lane_most
 unsigned_lane {width} {h} {m} {q} n = record {
-    as_wide = length-spelling_in width;
-    spelled = λ v fits.
-        let held = unsigned_fits (2 ^ min (8 * width) 127) v n.any fits in
-        let small : held.0 < 2 ^ min (8 * width) 127 = held.1.1 in
-        let same : cast_unsigned w128 v % m ≡ held.0 =
-            ap (λ (z : ℤ). cast_unsigned w128 z % m) held.1.0 ∙ mod-eq_of_lt (omega arith) in
-        ap (cast_signed w128) (low_bytes-read n v ∙ same) ∙ to_z_pos w128 held.0 (omega arith) ∙ sym held.1.0;
-    respelled = λ bytes are wide.
-        let small : little_number width bytes < m = number-below n bytes are wide in
-        respelled_from n (number_in false bytes) bytes are wide
-        (ap (λ (k : ℕ). cast_unsigned w128 (cast_signed w128 (little_number k bytes)) % m) wide
-         ∙ ap (λ (x : ℕ). x % m) (of_z-to_z w128 (little_number width bytes) (omega arith))
-         ∙ mod-eq_of_lt small)
+  as_wide = length-spelling_in width;
+  spelled = λ v fits.
+      let held = unsigned_fits (2 ^ min (8 * width) 127) v n.any fits in
+      let small : held.0 < 2 ^ min (8 * width) 127 = held.1.1 in
+      let same : cast_unsigned w128 v % m ≡ held.0 =
+      ap (λ (z : ℤ). cast_unsigned w128 z % m) held.1.0 ∙ mod-eq_of_lt (omega arith) in
+      ap (cast_signed w128) (low_bytes-read n v ∙ same) ∙ to_z_pos w128 held.0 (omega arith) ∙ sym held.1.0;
+  respelled = λ bytes are wide.
+      let small : little_number width bytes < m = number-below n bytes are wide in
+      respelled_from n (number_in false bytes) bytes are wide
+      (ap (λ (k : ℕ). cast_unsigned w128 (cast_signed w128 (little_number k bytes)) % m) wide
+      ∙ ap (λ (x : ℕ). x % m) (of_z-to_z w128 (little_number width bytes) (omega arith))
+      ∙ mod-eq_of_lt small);
 }
 
 numbers_of_1 : HasNumbers 1 (2 ^ 7 - 1) (2 ^ 8) (2 ^ 120)
@@ -152,9 +152,9 @@ lane_spelling width false is = let n = lane_numbers width is in unsigned_lane n.
 -- a kind has the spellings of its lane
 of_lane : (kind : Kind) → LaneHasOneSpelling (kind_width kind) (kind_is_signed kind) → ((v : ℤ) → IsTrue (is_in_range kind v) → IsTrue (fits_lane (kind_width kind) (kind_is_signed kind) v)) → HasOneSpelling kind
 of_lane kind lane within = record {
-    as_wide = lane.as_wide;
-    spelled = λ v in_range. lane.spelled v (within v in_range);
-    respelled = lane.respelled
+  as_wide = lane.as_wide;
+  spelled = λ v in_range. lane.spelled v (within v in_range);
+  respelled = lane.respelled;
 }
 
 -- a smaller range
@@ -174,9 +174,9 @@ no_bytes (x ∷ xs) empty = absurd (grind arith)
 text_spelling : (n : ℕ) → HasOneSpelling (Text n)
 unfolding kind_width kind_is_signed kind_least kind_most is_in_range spelling_in number_in
 text_spelling n = record {
-    as_wide = λ v. refl;
-    spelled = λ v in_range. sym (text_fits v in_range);
-    respelled = λ bytes are wide. no_bytes bytes wide
+  as_wide = λ v. refl;
+  spelled = λ v in_range. sym (text_fits v in_range);
+  respelled = λ bytes are wide. no_bytes bytes wide;
 }
 
 pub kind_spelling : (kind : Kind) → HasOneSpelling kind

@@ -26,7 +26,7 @@ signed_of-low h m q (pos n) whole parts some above below =
 signed_of-low h m q (negsuc n) whole parts some above below =
     let small : n ≤ h = grind (arith, nat_tests) in
     let same : (2 ^ 128 - suc n) % m ≡ m - suc n =
-        ap (λ (x : ℕ). (x - suc n) % m) (sym parts) ∙ mod-below_multiple m q n (omega arith) some in
+    ap (λ (x : ℕ). (x - suc n) % m) (sym parts) ∙ mod-below_multiple m q n (omega arith) some in
     let test : nat_lt (m - suc n) (suc h) ≡ false = grind (arith, nat_tests) in
     rw (same, test) (omega (arith, ints))
 
@@ -35,7 +35,7 @@ low-signed_of h m q n true test whole parts some small = mod-eq_of_lt small
 low-signed_of h m q n false test whole parts some small =
     let down : pos n -ℤ pos m ≡ negsuc (m - suc n) = omega (arith, ints) in
     let same : (2 ^ 128 - suc (m - suc n)) % m ≡ m - suc (m - suc n) =
-        ap (λ (x : ℕ). (x - suc (m - suc n)) % m) (sym parts) ∙ mod-below_multiple m q (m - suc n) (omega arith) some in
+    ap (λ (x : ℕ). (x - suc (m - suc n)) % m) (sym parts) ∙ mod-below_multiple m q (m - suc n) (omega arith) some in
     ap (λ (z : ℤ). cast_unsigned w128 z % m) down ∙ same ∙ omega arith
 
 pub low-signed : (h m q n : ℕ) → m ≡ suc h + suc h → m * q ≡ 2 ^ 128 → 0 < q → n < m → cast_unsigned w128 (signed_of (suc h) m n) % m ≡ n

@@ -1,12 +1,12 @@
 // The kinds of a column, and the calls that take one.
-ghost use Rattle.std.specs.Prelude.{◌≡◌, ◌<◌, length, IsTrue};
+ghost use Rattle.std.specs.Prelude.{◌≡◌, ◌<◌, ◌≤◌, length, IsTrue};
 ghost use Rattle.td_cols.specs.Kinds.{kind_code, kind_width, kind_is_signed, kind_least, kind_most, is_in_range};
 ghost use Rattle.td_cols.specs.Spelling.{spelling, number_spelled, HasOneSpelling};
 
 use crate::bytes::{read_number, write_number};
 
-/// The kind of a column. `Time` counts milliseconds since 1970, `Wide` holds the sums of results, and a
-/// `Text` has at most so many bytes.
+/// The kind of a column or of a result. `Bool` is 0 or 1, `Time` counts milliseconds from 1970 to the end of
+/// the year 9999, `Wide` holds sums in 128 bits, and a `Text` has at most so many bytes.
 #[derive(Clone, Copy, Debug, PartialEq, Eq)]
 pub enum Kind {
     Bool,
@@ -37,8 +37,8 @@ struct Form {
     most: i128,
 }
 
-#[tactic(auto, unfolding(crate::specs::Kinds::kind_code, crate::specs::Kinds::kind_width, crate::specs::Kinds::kind_is_signed, crate::specs::Kinds::kind_least, crate::specs::Kinds::kind_most))]
 /// The table of the kinds. A text has no numbers, so its most is below its least.
+#[tactic(auto, unfolding(crate::specs::Kinds::kind_code, crate::specs::Kinds::kind_width, crate::specs::Kinds::kind_is_signed, crate::specs::Kinds::kind_least, crate::specs::Kinds::kind_most))]
 fn form_of(kind: Kind) -> Form
     ensures code { result.code ≡ kind_code kind }
     ensures width { result.width ≡ kind_width kind }
@@ -77,24 +77,27 @@ pub fn code(kind: Kind) -> u8
 }
 
 /// How many bytes a number of the kind takes, 0 for a text.
+#[tactic(auto, using(crate::proofs::KindWidths::kind_width_few))]
 pub fn width(kind: Kind) -> usize
-    ensures { result ≡ kind_width kind }
+    ensures width { result ≡ kind_width kind }
+    ensures few { result ≤ 16 }
 {
     form_of(kind).width
 }
 
-#[tactic(auto, unfolding(crate::specs::Kinds::is_in_range))]
-/// Whether `v` is a number of the kind. A text has none.
+/// Whether `v` is a number of the kind. A text has none, so a kind with one takes bytes.
+#[tactic(auto, using(crate::proofs::KindWidths::kind_width_some), unfolding(crate::specs::Kinds::is_in_range))]
 pub fn in_range(kind: Kind, v: i128) -> bool
-    ensures { result ≡ is_in_range kind v }
+    ensures in_range { result ≡ is_in_range kind v }
+    ensures fixed { IsTrue result → 0 < kind_width kind }
 {
     let form = form_of(kind);
     form.least <= v && v <= form.most
 }
 
-#[tactic(auto, using(crate::proofs::KindWidths::kind_width_few, crate::proofs::KindWidths::kind_width_some))]
 /// Writes the one spelling of the number `v` of the kind over `out`, which has the kind's width. No number
 /// of a text is in range, so the kind is none.
+#[tactic(auto, using(crate::proofs::KindWidths::kind_width_few, crate::proofs::KindWidths::kind_width_some))]
 pub fn store(kind: Kind, v: i128, out: &mut [u8])
     requires in_range { IsTrue (is_in_range kind v) }
     requires room { length out.old ≡ kind_width kind }
@@ -104,9 +107,9 @@ pub fn store(kind: Kind, v: i128, out: &mut [u8])
     write_number(v, out);
 }
 
-#[tactic(auto, using(crate::proofs::KindWidths::kind_width_few))]
 /// The number that `bytes` of the kind's width spell, which is a number of the kind exactly where it is in
 /// range: 7 for the byte 7 of a `Bool`, which spells no truth value. The kind isn't a text.
+#[tactic(auto, using(crate::proofs::KindWidths::kind_width_few))]
 pub fn load(kind: Kind, bytes: &[u8]) -> i128
     requires fixed { 0 < kind_width kind }
     requires room { length bytes.now ≡ kind_width kind }
@@ -116,9 +119,8 @@ pub fn load(kind: Kind, bytes: &[u8]) -> i128
     read_number(bytes, form_of(kind).signed)
 }
 
-#[tactic(auto, using(crate::proofs::OneSpelling::kind_spelling))]
 /// A law: numbers in range and spellings of a kind belong to each other one to one.
+#[tactic(auto, using(crate::proofs::OneSpelling::kind_spelling))]
 pub fn one_spelling(kind: Kind)
     ensures { HasOneSpelling kind }
-{
-}
+{}

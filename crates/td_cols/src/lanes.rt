@@ -5,17 +5,21 @@ ghost use Rattle.td_cols.specs.Spelling.{spelling_in, number_in};
 
 use crate::bytes::{read_number, write_number};
 
-#[tactic(auto, unfolding(crate::specs::Lanes::lane_least))]
 /// The least number of a lane of so many bytes.
+#[tactic(auto, unfolding(crate::specs::Lanes::lane_least))]
 fn least(width: usize, signed: bool) -> i128
     requires { IsTrue (is_lane_width width) }
     ensures { result ≡ lane_least width signed }
 {
-    if signed { i128::MIN >> (128 - 8 * width) } else { 0 }
+    if signed {
+        i128::MIN >> (128 - 8 * width)
+    } else {
+        0
+    }
 }
 
-#[tactic(auto, unfolding(crate::specs::Lanes::lane_most))]
 /// The most number of a lane of so many bytes, and of an `i128`.
+#[tactic(auto, unfolding(crate::specs::Lanes::lane_most))]
 fn most(width: usize, signed: bool) -> i128
     requires { IsTrue (is_lane_width width) }
     ensures { result ≡ lane_most width signed }
@@ -24,13 +28,14 @@ fn most(width: usize, signed: bool) -> i128
     i128::MAX >> (127 - bits.min(127))
 }
 
-/// A name for the lanes of `W` bytes, 1, 2, 4, 8 or 16, which are two's complement if `S`. It has no value of
-/// use.
+/// A type of lane: numbers of `W` bytes each, 1, 2, 4, 8 or 16, in two's complement if `S`. It names the calls
+/// below, none of which takes a value of it.
+#[derive(Drop)]
 pub struct Lane<const W: usize, const S: bool>;
 
 impl<const W: usize, const S: bool> Lane<W, S> {
+    /// Whether `v` is a number of the lane: in the two's complement range of its bits, or from 0 to its most.
     #[tactic(auto, unfolding(crate::specs::Lanes::fits_lane))]
-    /// Whether `v` is a number of the lane.
     pub fn fits(v: i128) -> bool
         requires { IsTrue (is_lane_width W) }
         ensures { result ≡ fits_lane W S v }
@@ -38,7 +43,7 @@ impl<const W: usize, const S: bool> Lane<W, S> {
         least(W, S) <= v && v <= most(W, S)
     }
 
-    /// Writes the one spelling of `v` over `out`.
+    /// Writes the one spelling of `v`, which fits, over `out`, which has `W` bytes.
     pub fn put(v: i128, out: &mut [u8])
         requires width { IsTrue (is_lane_width W) }
         requires fits { IsTrue (fits_lane W S v) }
@@ -49,7 +54,8 @@ impl<const W: usize, const S: bool> Lane<W, S> {
         write_number(v, out);
     }
 
-    /// The number that `bytes` spell.
+    /// The number that `bytes` spell, of which there are `W`. An `i128` holds the unsigned number of 16 bytes
+    /// only below 2^127; from there on it is the negative number of the same bits, which doesn't fit.
     pub fn get(bytes: &[u8]) -> i128
         requires width { IsTrue (is_lane_width W) }
         requires room { length bytes.now ≡ W }

@@ -12,8 +12,8 @@
 mod bytes;
 mod kinds;
 mod lanes;
-//TEST
-//TEST
+#[cfg(test)]
+mod tests;
 
-pub use kinds::{Kind, code, in_range, load, store, width};
+pub use kinds::{Kind, code, in_range, load, one_spelling, store, width};
 pub use lanes::Lane;

@@ -11,7 +11,7 @@ pub returns-clause-stored : goal.returns-clause-stored
 returns-clause-stored c =
     let fits : FitsSigned w128 c.read_number.result = record { sfits = c.read_number.type_inv } in
     let number : cast_signed w128 (cast_unsigned w128 c.read_number.result) ≡ number_spelled c.args.kind c.args.bytes.now =
-        to_z-of_z w128 c.read_number.result fits ∙ c.read_number.ensures
-        ∙ ap (λ (signed : Bool). number_in signed c.args.bytes.now) c.form_of.ensures.signed in
+    to_z-of_z w128 c.read_number.result fits ∙ c.read_number.ensures
+    ∙ ap (λ (signed : Bool). number_in signed c.args.bytes.now) c.form_of.ensures.signed in
     ap (spelling c.args.kind) number
     ∙ (kind_spelling c.args.kind).respelled c.args.bytes.now (λ i. (c.type_inv.bytes i).fits) c.requires.room
