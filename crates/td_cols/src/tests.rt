@@ -86,6 +86,7 @@ fn each_kind_at_its_ends(rt: HostRuntime) {
 }
 
 #[test]
+#[tactic(auto, unfolding(crate::specs::Kinds::kind_width))]
 fn lanes(rt: HostRuntime) {
     assert!(rt; Lane::<4, true>::fits(2));
     let mut out = [7u8; 4];
