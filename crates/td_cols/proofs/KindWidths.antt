@@ -1,5 +1,5 @@
 -- How many bytes the numbers of a kind take.
-use Rattle.std.proofs.Common.{◌≡◌, ℕ, ◌<◌, ◌≤◌, true, lit<, lit≤, ℤ, pos, negsuc, arith}
+use Rattle.std.proofs.Common.{ℕ, ◌<◌, ◌≤◌, lit<, lit≤, ℤ, pos, negsuc, arith}
 use Rattle.std.specs.Prelude.{IsTrue}
 use Rattle.std.proofs.lemmas.Bool.Decides.{nat_tests}
 use Rattle.td_cols.specs.declared.kinds.Kind.{Kind}

@@ -1,5 +1,5 @@
 -- A kind with a number in range is no text.
-use Rattle.std.proofs.Common.{rules, ◌≡◌, ◌∙◌, sym, Bool, true, to_z, of_z}
+use Rattle.std.proofs.Common.{rules, ◌≡◌, ◌∙◌, sym, to_z, of_z}
 use Rattle.std.specs.Int.{w128}
 use Rattle.std.specs.Prelude.{int_le}
 use Rattle.td_cols.specs.Kinds.{is_in_range}

@@ -1,9 +1,9 @@
 -- Bytes are the spelling of the number that they are read as, by the one spelling of the lane.
-use Rattle.std.proofs.Common.{◌≡◌, ap, ◌∙◌, not, nat_eq}
+use Rattle.std.proofs.Common.{ap, ◌∙◌, not, nat_eq}
 use Rattle.std.proofs.lemmas.Int.{to_z-of_z}
 use Rattle.std.specs.Prelude.{FitsSigned}
-use Rattle.std.specs.Int.{w128, cast_signed, cast_unsigned}
-use Rattle.td_cols.specs.Spelling.{spelling_in, number_in}
+use Rattle.std.specs.Int.{w128}
+use Rattle.td_cols.specs.Spelling.{spelling_in}
 use Rattle.td_cols.proofs.OneSpelling.{lane_spelling}
 use Rattle.td_cols.proofs.lanes.Lane.get.Goals as goal
 
