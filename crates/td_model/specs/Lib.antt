@@ -1,4 +1,3 @@
-pub mod Values
 pub mod State
 pub mod Verdict
 pub mod Script

@@ -9,7 +9,7 @@ use Rattle.td_layer.specs.declared.values.Value.TheVariants as value
 use Rattle.td_layer.specs.declared.values.Cell.{Cell}
 use Rattle.td_layer.specs.declared.values.Cell.TheVariants as cell
 use Rattle.td_layer.specs.declared.values.Row.{Row}
-use Rattle.td_model.specs.declared.kinds.Kind.TheVariants.{I32, Time}
+use Rattle.td_cols.specs.declared.kinds.Kind.TheVariants.{I32, Time}
 use Rattle.td_model.specs.declared.words.Form.{Form}
 use Rattle.td_model.specs.declared.words.Form.TheVariants as form
 use Rattle.td_model.specs.declared.words.What.{What}
@@ -17,7 +17,7 @@ use Rattle.td_model.specs.declared.words.What.TheVariants as what
 use Rattle.td_model.specs.declared.words.Verdict.{Verdict}
 use Rattle.td_model.specs.declared.words.Verdict.TheVariants.{Accept, Pass, Refuse}
 use Rattle.td_model.specs.declared.report.Cause.TheVariants.{UnknownTable, NameTaken, OutOfRange}
-use Rattle.td_model.specs.Values.{is_in_range}
+use Rattle.td_cols.specs.Kinds.{is_in_range}
 use Rattle.td_model.specs.State.{State, Rows}
 
 -- the number of the table of a name, from 1

@@ -25,6 +25,7 @@ use Rattle.td_model.specs.declared.report.Report.{Report}
 use Rattle.td_model.specs.State.{State, empty_state, after}
 use Rattle.td_model.specs.Verdict.{verdict, answer}
 use Rattle.td_model.specs.Told.{ToldInOrder}
+use Rattle.td_cols.specs.Kinds.{is_in_range, kind_least, kind_most}
 
 abbrev made : Entry
 made = record { session = 1; ordinal = 2; moment = 2000000000000; what = what.MakeTable }
@@ -56,6 +57,7 @@ pub latest : (after empty_state (made ∷ put_seven ∷ put_before ∷ [])).late
 latest = refl
 
 pub no_timestamp : verdict (form.Insert (negsuc 0) (pos 7)) (after empty_state (made ∷ [])) 0 ≡ Refuse (OutOfRange (codes "ts"))
+unfolding is_in_range kind_least kind_most
 no_timestamp = refl
 
 abbrev six : List Form
@@ -73,6 +75,7 @@ six_report = record {
 
 -- the report tells the run of the six lines
 pub six_told : ToldInOrder empty_state None six six_report
+unfolding is_in_range kind_least kind_most
 six_told = record {
   told = record {
     base = refl;

@@ -8,11 +8,10 @@
 //! It promises that `in_range` is the definition, and that a report's text determines the report. It stands on `td_layer`.
 #![tactic(auto)]
 
-mod kinds;
 mod report;
 mod words;
 
-pub use kinds::{Kind, in_range};
 pub use report::{Cause, JournalLine, Mark, Reply, Report};
+pub use td_cols::{Kind, in_range};
 pub use td_layer::{Cell, Func};
 pub use words::{Entry, Put, Form, Verdict, What};

@@ -14,8 +14,8 @@ use Rattle.td_model.specs.declared.report.Cause.TheVariants.{UnknownTable, NameT
 use Rattle.td_model.specs.declared.report.Reply.{Reply}
 use Rattle.td_model.specs.declared.report.Reply.TheVariants as reply
 use Rattle.td_model.specs.declared.report.JournalLine.{JournalLine}
-use Rattle.td_model.specs.declared.kinds.Kind.TheVariants.{I32, Time}
-use Rattle.td_model.specs.Values.{is_in_range}
+use Rattle.td_cols.specs.declared.kinds.Kind.TheVariants.{I32, Time}
+use Rattle.td_cols.specs.Kinds.{is_in_range}
 use Rattle.td_model.specs.Times.{Timed}
 use Rattle.td_model.specs.State.{State, step, newest, trail, after, at}
 use Rattle.td_model.specs.Verdict.{number_of, put_of, make_verdict, insert_verdict, select_verdict, verdict, header, answer}

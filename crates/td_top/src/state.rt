@@ -135,6 +135,7 @@ fn insert_verdict(alloc: Global, table: Option<u32>, ts: i128, v: i128) -> Resul
 }
 
 // What the values of an INSERT meet, where there is the table.
+#[tactic(auto, unfolding(td_cols::specs::Kinds::is_in_range, td_cols::specs::Kinds::kind_least, td_cols::specs::Kinds::kind_most))]
 fn put_verdict(alloc: Global, table: u32, ts: i128, v: i128) -> Result<Verdict, NoMem>
     ensures { IfOk result (λ verdict. verdict ≡ put_of table ts v) }
 {
