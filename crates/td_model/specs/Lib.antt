@@ -1,3 +1,4 @@
+pub mod Catalog
 pub mod State
 pub mod Verdict
 pub mod Script

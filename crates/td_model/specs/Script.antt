@@ -1,8 +1,8 @@
 -- Which bytes are a script.
 use Rattle.std.specs.Prelude.{◌≡◌, ◌≢◌, ℕ, suc, ◌+◌, ◌-◌, ◌*◌, ◌≤◌, ◌<◌, ℤ, pos, neg_ℤ, Bool, true, false, ◌&&◌, nat_le, List, [], ◌∷◌, ◌++◌, length, IsTrue}
 use lib.Chars.{codes}
-use Rattle.td_model.specs.declared.words.Form.{Form}
-use Rattle.td_model.specs.declared.words.Form.TheVariants as form
+use Rattle.td_model.specs.declared.forms.Form.{Form}
+use Rattle.td_model.specs.declared.forms.Form.TheVariants as form
 
 abbrev pub is_digit : ℕ → Bool
 is_digit b = nat_le 48 b && nat_le b 57

@@ -6,7 +6,9 @@ use lib.Chars.{codes}
 use Rattle.td_layer.specs.declared.values.Cell.{Cell}
 use Rattle.td_layer.specs.declared.values.Cell.TheVariants.{Null, Truth, Num, Frac, Str}
 use Rattle.td_model.specs.declared.report.Cause.{Cause}
-use Rattle.td_model.specs.declared.report.Cause.TheVariants.{UnknownTable, NameTaken, OutOfRange}
+use Rattle.td_model.specs.declared.report.Cause.TheVariants as cause
+use Rattle.td_model.specs.declared.report.Many.{Many}
+use Rattle.td_model.specs.declared.report.Many.TheVariants as many
 use Rattle.td_model.specs.declared.report.Reply.{Reply}
 use Rattle.td_model.specs.declared.report.Reply.TheVariants as reply
 use Rattle.td_model.specs.declared.report.Mark.{Mark}
@@ -14,10 +16,43 @@ use Rattle.td_model.specs.declared.report.Mark.TheVariants as mark
 use Rattle.td_model.specs.declared.report.JournalLine.{JournalLine}
 use Rattle.td_model.specs.declared.report.Report.{Report}
 
+abbrev pub many_text : Many → List ℕ
+many_text many.Columns = codes "columns"
+many_text many.Tags = codes "tags"
+many_text many.Rows = codes "rows"
+many_text many.Tables = codes "tables"
+many_text many.Streams = codes "streams"
+many_text many.Numbers = codes "numbers"
+many_text many.Cursors = codes "cursors"
+
 abbrev pub cause_text : Cause → List ℕ
-cause_text UnknownTable = codes "UnknownTable"
-cause_text NameTaken = codes "NameTaken"
-cause_text (OutOfRange column) = codes "OutOfRange " ++ column
+cause_text cause.TooLong = codes "TooLong"
+cause_text (cause.Syntax at) = codes "Syntax " ++ decimal at
+cause_text cause.NameTooLong = codes "NameTooLong"
+cause_text cause.TypeNotBuilt = codes "TypeNotBuilt"
+cause_text cause.OptionNotBuilt = codes "OptionNotBuilt"
+cause_text (cause.Stopped version) = codes "Stopped " ++ decimal version
+cause_text cause.TooManyVersions = codes "TooMany versions 281474976710654"
+cause_text cause.UnknownTable = codes "UnknownTable"
+cause_text cause.UnknownStable = codes "UnknownStable"
+cause_text cause.UnknownStream = codes "UnknownStream"
+cause_text cause.UnknownCursor = codes "UnknownCursor"
+cause_text cause.TargetOfStream = codes "TargetOfStream"
+cause_text cause.SourceIsTarget = codes "SourceIsTarget"
+cause_text cause.NotAStable = codes "NotAStable"
+cause_text cause.NotATable = codes "NotATable"
+cause_text cause.NeedsTags = codes "NeedsTags"
+cause_text cause.NameTaken = codes "NameTaken"
+cause_text cause.NeedsTime = codes "NeedsTime"
+cause_text cause.UnknownColumn = codes "UnknownColumn"
+cause_text cause.Arity = codes "Arity"
+cause_text (cause.TypeMismatch column) = codes "TypeMismatch " ++ column
+cause_text (cause.OutOfRange column) = codes "OutOfRange " ++ column
+cause_text (cause.TooMany what limit) = codes "TooMany " ++ many_text what ++ codes " " ++ decimal limit
+cause_text cause.BadSelect = codes "BadSelect"
+cause_text cause.BadWindow = codes "BadWindow"
+cause_text cause.BadLimit = codes "BadLimit"
+cause_text (cause.BeforeEdge edge) = codes "BeforeEdge " ++ decimal edge
 
 abbrev pub truth_text : Bool → List ℕ
 truth_text true = codes "true"
@@ -56,8 +91,20 @@ row_line cells = cells_text cells ++ codes "\n"
 abbrev pub reply_text : Reply → List ℕ
 reply_text (reply.Accepted version) = codes "accepted " ++ decimal version ++ codes "\n"
 reply_text (reply.AcceptedRows version rows) = codes "accepted " ++ decimal version ++ codes " rows " ++ decimal rows ++ codes "\n"
+reply_text (reply.AcceptedEdge version edge) = codes "accepted " ++ decimal version ++ codes " edge " ++ decimal edge ++ codes "\n"
 reply_text (reply.Answer prefix names rows) = codes "answer " ++ decimal prefix ++ codes " rows " ++ decimal (length rows) ++ codes "\n" ++ names_text names ++ codes "\n" ++ flat_map row_line rows
+reply_text (reply.Opened prefix) = codes "opened " ++ decimal prefix ++ codes "\n"
+reply_text reply.Closed = codes "closed\n"
+reply_text (reply.Committed version) = codes "committed " ++ decimal version ++ codes "\n"
+reply_text reply.Nothing = codes "nothing\n"
+reply_text (reply.Stopped version) = codes "stopped " ++ decimal version ++ codes "\n"
+reply_text (reply.Merged count) = codes "merged " ++ decimal count ++ codes "\n"
+reply_text (reply.Swept count) = codes "swept " ++ decimal count ++ codes "\n"
+reply_text reply.Asked = codes "asked\n"
 reply_text (reply.Refused prefix cause) = codes "refused " ++ decimal prefix ++ codes " " ++ cause_text cause ++ codes "\n"
+reply_text reply.StoreFault = codes "store fault\n"
+reply_text (reply.StoreFaultHalt halt) = codes "store fault halt " ++ decimal halt ++ codes "\n"
+reply_text (reply.Damaged file at) = codes "damaged " ++ decimal file ++ codes " " ++ decimal at ++ codes "\n"
 reply_text reply.NoMemory = codes "no memory\n"
 
 -- a reply after the session and ordinal of its statement
@@ -70,10 +117,15 @@ who_text session ordinal = if session == 0 && ordinal == 0 then codes "0" else d
 
 abbrev pub mark_text : Mark → List ℕ
 mark_text mark.Plain = []
+mark_text (mark.Step stream upto moment) = codes " step " ++ stream ++ codes " " ++ decimal upto ++ codes " " ++ decimal moment
 mark_text mark.Halt = codes " halt"
 
 abbrev pub journal_line : JournalLine → List ℕ
 journal_line j = decimal j.version ++ codes " " ++ who_text j.session j.ordinal ++ codes " " ++ decimal j.moment ++ mark_text j.mark ++ codes "\n"
 
+-- a live stream, and the version that it is brought up to
+abbrev pub stream_line : (List ℕ × ℕ) → List ℕ
+stream_line s = codes "stream " ++ s.0 ++ codes " upto " ++ decimal s.1 ++ codes "\n"
+
 abbrev pub report_text : Report → List ℕ
-report_text r = codes "base " ++ decimal r.base ++ codes "\n" ++ flat_map reply_line r.replies ++ codes "journal " ++ decimal (length r.journal) ++ codes "\n" ++ flat_map journal_line r.journal
+report_text r = codes "base " ++ decimal r.base ++ codes "\n" ++ flat_map reply_line r.replies ++ flat_map stream_line r.streams ++ codes "journal " ++ decimal (length r.journal) ++ codes "\n" ++ flat_map journal_line r.journal

@@ -1,6 +1,6 @@
 -- The moments of a history beside the readings of a clock.
 use Rattle.std.specs.Prelude.{◌≡◌, ◌⊎◌, ℕ, zero, suc, ◌≤◌, List, [], ◌∷◌, Option, Some, None, slice_get}
-use Rattle.td_model.specs.declared.words.Entry.{Entry}
+use Rattle.td_model.specs.declared.history.Entry.{Entry}
 
 -- the i-th reading, from 0, of which the last repeats
 abbrev pub reading : List ℕ → ℕ → ℕ

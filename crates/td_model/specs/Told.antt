@@ -1,10 +1,10 @@
 -- When a report tells the run of a script, from a state on.
 use Rattle.std.specs.Prelude.{◌≡◌, ℕ, ◌+◌, ◌-◌, ◌≤◌, ◌<◌, if◌then◌else◌, ◌==◌, List, [], ◌∷◌, map, Option, Some, None, option_and_then, slice_get, length}
-use Rattle.td_model.specs.declared.words.Form.{Form}
-use Rattle.td_model.specs.declared.words.Form.TheVariants as form
-use Rattle.td_model.specs.declared.words.Entry.{Entry}
-use Rattle.td_model.specs.declared.words.Verdict.{Verdict}
-use Rattle.td_model.specs.declared.words.Verdict.TheVariants.{Accept, Pass, Refuse}
+use Rattle.td_model.specs.declared.forms.Form.{Form}
+use Rattle.td_model.specs.declared.forms.Form.TheVariants as form
+use Rattle.td_model.specs.declared.history.Entry.{Entry}
+use Rattle.td_model.specs.declared.history.Verdict.{Verdict}
+use Rattle.td_model.specs.declared.history.Verdict.TheVariants.{Accept, Pass, Refuse}
 use Rattle.td_model.specs.declared.report.Reply.{Reply}
 use Rattle.td_model.specs.declared.report.Reply.TheVariants as reply
 use Rattle.td_model.specs.declared.report.Mark.TheVariants as mark
@@ -64,9 +64,8 @@ EachAnswered b h journal n (q ∷ qs) [] = ⊥
 abbrev pub version_of : Reply → Option ℕ
 version_of (reply.Accepted v) = Some v
 version_of (reply.AcceptedRows v rows) = Some v
-version_of (reply.Answer p names rows) = None
-version_of (reply.Refused p cause) = None
-version_of reply.NoMemory = None
+version_of (reply.AcceptedEdge v edge) = Some v
+version_of r = None
 
 -- the accepted replies as version and ordinal, in their order
 abbrev pub with_version : Option ℕ → ℕ → List (ℕ × ℕ) → List (ℕ × ℕ)
@@ -90,16 +89,20 @@ Rising n (j ∷ js) = (n < j.ordinal) × Rising j.ordinal js
 abbrev pub NumberFollows : ℕ → Reply → Type 0
 NumberFollows seen (reply.Accepted v) = seen < v
 NumberFollows seen (reply.AcceptedRows v rows) = seen < v
+NumberFollows seen (reply.AcceptedEdge v edge) = seen < v
 NumberFollows seen (reply.Answer p names rows) = seen ≤ p
+NumberFollows seen (reply.Opened p) = seen ≤ p
 NumberFollows seen (reply.Refused p cause) = seen ≤ p
-NumberFollows seen reply.NoMemory = Unit {0}
+NumberFollows seen r = Unit {0}
 
 abbrev pub number_or : ℕ → Reply → ℕ
 number_or seen (reply.Accepted v) = v
 number_or seen (reply.AcceptedRows v rows) = v
+number_or seen (reply.AcceptedEdge v edge) = v
 number_or seen (reply.Answer p names rows) = p
+number_or seen (reply.Opened p) = p
 number_or seen (reply.Refused p cause) = p
-number_or seen reply.NoMemory = seen
+number_or seen r = seen
 
 abbrev pub NeverFalling : ℕ → List (ℕ × ℕ × Reply) → Type 0
 NeverFalling seen [] = Unit {0}
@@ -109,17 +112,18 @@ NeverFalling seen (r ∷ rs) = NumberFollows seen r.2 × NeverFalling (number_or
 abbrev pub NumberIs : ℕ → Reply → Type 0
 NumberIs front (reply.Accepted v) = v ≡ front + 1
 NumberIs front (reply.AcceptedRows v rows) = v ≡ front + 1
+NumberIs front (reply.AcceptedEdge v edge) = v ≡ front + 1
 NumberIs front (reply.Answer p names rows) = p ≡ front
+NumberIs front (reply.Opened p) = p ≡ front
 NumberIs front (reply.Refused p cause) = p ≡ front
-NumberIs front reply.NoMemory = Unit {0}
+NumberIs front r = Unit {0}
 
 -- the front after a reply
 abbrev pub front_after : ℕ → Reply → ℕ
 front_after front (reply.Accepted v) = front + 1
 front_after front (reply.AcceptedRows v rows) = front + 1
-front_after front (reply.Answer p names rows) = front
-front_after front (reply.Refused p cause) = front
-front_after front reply.NoMemory = front
+front_after front (reply.AcceptedEdge v edge) = front + 1
+front_after front r = front
 
 abbrev pub InOrder : ℕ → List (ℕ × ℕ × Reply) → Type 0
 InOrder front [] = Unit {0}
@@ -139,6 +143,8 @@ pub record Told (b : State) (readings : Option (List ℕ)) (script : List Form) 
   pub one_each : Rising 0 r.journal
   -- the numbers of the replies don't fall
   pub numbers : NeverFalling b.version r.replies
+  -- no stream lives so far
+  pub streams : r.streams ≡ []
   -- where the clock told its readings, the moments of the entries are among them
   pub moments : Timed readings b.moment entries
 

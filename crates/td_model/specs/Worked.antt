@@ -11,11 +11,11 @@ use Rattle.std.proofs.Common.{arith}
 use lib.Chars.{codes}
 use Rattle.td_layer.specs.declared.values.Value.TheVariants as value
 use Rattle.td_layer.specs.declared.values.Cell.TheVariants.{Num}
-use Rattle.td_model.specs.declared.words.Form.{Form}
-use Rattle.td_model.specs.declared.words.Form.TheVariants as form
-use Rattle.td_model.specs.declared.words.What.TheVariants as what
-use Rattle.td_model.specs.declared.words.Entry.{Entry}
-use Rattle.td_model.specs.declared.words.Verdict.TheVariants.{Accept, Pass, Refuse}
+use Rattle.td_model.specs.declared.forms.Form.{Form}
+use Rattle.td_model.specs.declared.forms.Form.TheVariants as form
+use Rattle.td_model.specs.declared.history.What.TheVariants as what
+use Rattle.td_model.specs.declared.history.Entry.{Entry}
+use Rattle.td_model.specs.declared.history.Verdict.TheVariants.{Accept, Pass, Refuse}
 use Rattle.td_model.specs.declared.report.Cause.TheVariants.{UnknownTable, NameTaken, OutOfRange}
 use Rattle.td_model.specs.declared.report.Reply.{Reply}
 use Rattle.td_model.specs.declared.report.Reply.TheVariants as reply
@@ -25,19 +25,20 @@ use Rattle.td_model.specs.declared.report.Report.{Report}
 use Rattle.td_model.specs.State.{State, empty_state, after}
 use Rattle.td_model.specs.Verdict.{verdict, answer}
 use Rattle.td_model.specs.Told.{ToldInOrder}
+use Rattle.td_cols.specs.declared.kinds.Kind.TheVariants.{I32, Time}
 use Rattle.td_cols.specs.Kinds.{is_in_range, kind_least, kind_most}
 
 abbrev made : Entry
-made = record { session = 1; ordinal = 2; moment = 2000000000000; what = what.MakeTable }
+made = record { session = 1; ordinal = 2; moment = 2000000000000; what = what.MakeTable (codes "t") (record { name = codes "ts"; kind = Time } ∷ record { name = codes "v"; kind = I32 } ∷ []) }
 
 abbrev put_seven : Entry
-put_seven = record { session = 1; ordinal = 4; moment = 2000000000000; what = what.Put (record { key = record { table = 1; ts = 5 }; cells = Some (value.Num (pos 7)) ∷ [] }) }
+put_seven = record { session = 1; ordinal = 4; moment = 2000000000000; what = what.Put (record { key = record { table = 1; ts = 5 }; cells = Some (value.Num (pos 7)) ∷ [] } ∷ []) }
 
 abbrev put_eight : Entry
-put_eight = record { session = 1; ordinal = 5; moment = 2000000000001; what = what.Put (record { key = record { table = 1; ts = 5 }; cells = Some (value.Num (pos 8)) ∷ [] }) }
+put_eight = record { session = 1; ordinal = 5; moment = 2000000000001; what = what.Put (record { key = record { table = 1; ts = 5 }; cells = Some (value.Num (pos 8)) ∷ [] } ∷ []) }
 
 abbrev put_before : Entry
-put_before = record { session = 1; ordinal = 6; moment = 2000000000002; what = what.Put (record { key = record { table = 1; ts = 3 }; cells = Some (value.Num (negsuc 0)) ∷ [] }) }
+put_before = record { session = 1; ordinal = 6; moment = 2000000000002; what = what.Put (record { key = record { table = 1; ts = 3 }; cells = Some (value.Num (negsuc 0)) ∷ [] } ∷ []) }
 
 pub select_before : verdict form.Select empty_state 0 ≡ Refuse UnknownTable
 select_before = refl
@@ -53,7 +54,7 @@ updated = refl
 pub kept : (after empty_state (made ∷ put_seven ∷ put_eight ∷ [])).rows ≡ (record { table = 1; ts = 5 }, record { birth = record { born = 2000000000000 }; values = value.Num (pos 8) ∷ [] }) ∷ []
 kept = refl
 
-pub latest : (after empty_state (made ∷ put_seven ∷ put_before ∷ [])).latest ≡ Some 5 ∷ []
+pub latest : (after empty_state (made ∷ put_seven ∷ put_before ∷ [])).table_latest ≡ Some 5 ∷ []
 latest = refl
 
 pub no_timestamp : verdict (form.Insert (negsuc 0) (pos 7)) (after empty_state (made ∷ [])) 0 ≡ Refuse (OutOfRange (codes "ts"))
@@ -70,6 +71,7 @@ abbrev six_report : Report
 six_report = record {
   base = 0;
   replies = (1, 1, reply.Refused 0 UnknownTable) ∷ (1, 2, reply.Accepted 1) ∷ (1, 3, reply.Refused 1 (OutOfRange (codes "v"))) ∷ (1, 4, reply.AcceptedRows 2 1) ∷ (1, 5, reply.Refused 2 NameTaken) ∷ (1, 6, reply.Answer 2 (codes "ts" ∷ codes "v" ∷ []) ((Num (pos 5) ∷ Num (pos 7) ∷ []) ∷ [])) ∷ [];
+  streams = [];
   journal = listed_as 1 2 ∷ listed_as 2 4 ∷ [];
 }
 
@@ -110,6 +112,7 @@ six_told = record {
     own_entries = refl;
     one_each = (omega arith, (omega arith, tt));
     numbers = (omega arith, (omega arith, (omega arith, (omega arith, (omega arith, (omega arith, tt))))));
+    streams = refl;
     moments = tt;
   };
   in_order = (refl, (refl, (refl, (refl, (refl, (refl, tt))))));
