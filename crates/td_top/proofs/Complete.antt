@@ -3,7 +3,7 @@ use Rattle.std.proofs.Common.{◌≡◌, ◌≢◌, ◌⊎◌, inl, inr, ℕ, �
 use Rattle.std.proofs.lemmas.List.{append-nil, length-append}
 use Rattle.std.specs.Io.KnownBytes.{Consumes, IsAtEnd}
 use Rattle.td_outside.specs.Causes.{Rose}
-use Rattle.td_model.specs.declared.words.Form.{Form}
+use Rattle.td_model.specs.declared.forms.Form.{Form}
 use Rattle.td_model.specs.Script.{IsStatement, IsScript, none, line, FirstOutside, here, later, NoLine}
 use Rattle.td_top.specs.declared.top.Status.{Status}
 use Rattle.td_top.specs.declared.top.Status.TheVariants as status

@@ -1,15 +1,15 @@
 -- A run of turns, one after another.
 use Rattle.std.proofs.Common.{◌≡◌, ◌⊎◌, inl, inr, ℕ, ◌+◌, ◌≤◌, ◌<◌, take, get_or, List, [], ◌∷◌, ◌++◌, length, Option, Some, None, refl, sym, ap, ◌∙◌, subst, arith}
 use Rattle.std.proofs.lemmas.List.{append_assoc, append-nil, take_more, length-take-le}
-use Rattle.td_model.specs.declared.words.Form.{Form}
+use Rattle.td_model.specs.declared.forms.Form.{Form}
 use Rattle.td_model.specs.declared.report.JournalLine.{JournalLine}
 use Rattle.td_model.specs.declared.report.Reply.{Reply}
-use Rattle.td_model.specs.declared.words.Verdict.{Verdict}
-use Rattle.td_model.specs.declared.words.Verdict.TheVariants.{Accept, Pass, Refuse}
-use Rattle.td_model.specs.declared.words.What.TheVariants as what
+use Rattle.td_model.specs.declared.history.Verdict.{Verdict}
+use Rattle.td_model.specs.declared.history.Verdict.TheVariants.{Accept, Pass, Refuse}
 use Rattle.td_model.specs.State.{State}
 use Rattle.td_model.specs.Verdict.{verdict}
-use Rattle.td_top.specs.Turn.{reply_of, state_then, line_then, as_list, reply_line_at, TurnIs, TurnAnswers}
+use Rattle.td_model.proofs.Steps.{step_version, step_moment}
+use Rattle.td_top.specs.Turn.{entry_at, reply_of, state_then, line_then, as_list, reply_line_at, TurnIs, TurnAnswers}
 
 -- what a turn goes by: the verdict, or no verdict where there was no memory
 abbrev pub Judged : Option Verdict → Verdict → Type 0
@@ -40,15 +40,13 @@ plays_more P n s (p ∷ qs) (r ∷ rs) js t q v k m h j e l ok =
     (h.0, h.1, h.2, h.3, h.4, h.5 ++ as_list (line_then v t k m), ap (λ x. x ++ as_list (line_then v t k m)) h.6 ∙ append_assoc (as_list (line_then h.2 s n h.0)) h.5 (as_list (line_then v t k m)), plays_more P (n + 1) _ qs rs h.5 t q v k m h.7 j (omega arith) l ok)
 
 pub version_then : (v : Option Verdict) (s : State) (n m : ℕ) → (state_then v s n m).version ≤ s.version + 1
-version_then (Some (Accept what.MakeTable rows)) s n m = omega arith
-version_then (Some (Accept (what.Put p) rows)) s n m = omega arith
+version_then (Some (Accept w rows)) s n m = omega (arith, step_version s (entry_at n m w))
 version_then (Some Pass) s n m = omega arith
 version_then (Some (Refuse cause)) s n m = omega arith
 version_then None s n m = omega arith
 
 pub moment_then : (v : Option Verdict) (s : State) (n m : ℕ) → s.moment ≤ m → (state_then v s n m).moment ≤ m
-moment_then (Some (Accept what.MakeTable rows)) s n m l = omega arith
-moment_then (Some (Accept (what.Put p) rows)) s n m l = omega arith
+moment_then (Some (Accept w rows)) s n m l = omega (arith, step_moment s (entry_at n m w))
 moment_then (Some Pass) s n m l = l
 moment_then (Some (Refuse cause)) s n m l = l
 moment_then None s n m l = l

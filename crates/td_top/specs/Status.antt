@@ -4,7 +4,7 @@ use Rattle.std.specs.Str.{bytes_eq}
 use lib.Chars.{codes}
 use Rattle.std.specs.Io.KnownBytes.{Appends, Keeps}
 use Rattle.td_outside.specs.Causes.{Rose}
-use Rattle.td_model.specs.declared.words.Form.{Form}
+use Rattle.td_model.specs.declared.forms.Form.{Form}
 use Rattle.td_model.specs.declared.report.Report.{Report}
 use Rattle.td_model.specs.State.{empty_state}
 use Rattle.td_model.specs.Script.{IsScript, FirstOutside}

@@ -2,11 +2,11 @@
 use Rattle.std.specs.Prelude.{◌≡◌, ◌⊎◌, ℕ, ◌+◌, ◌-◌, ◌<◌, List, [], ◌∷◌, Option, Some, None, length}
 use Rattle.td_layer.specs.declared.values.Value.{Value}
 use Rattle.td_layer.specs.declared.values.Value.TheVariants.{Null}
-use Rattle.td_model.specs.declared.words.What.{What}
-use Rattle.td_model.specs.declared.words.What.TheVariants as what
-use Rattle.td_model.specs.declared.words.Entry.{Entry}
-use Rattle.td_model.specs.declared.words.Verdict.{Verdict}
-use Rattle.td_model.specs.declared.words.Verdict.TheVariants.{Accept, Pass, Refuse}
+use Rattle.td_model.specs.declared.history.What.{What}
+use Rattle.td_model.specs.declared.history.What.TheVariants as what
+use Rattle.td_model.specs.declared.history.Entry.{Entry}
+use Rattle.td_model.specs.declared.history.Verdict.{Verdict}
+use Rattle.td_model.specs.declared.history.Verdict.TheVariants.{Accept, Pass, Refuse}
 use Rattle.td_model.specs.declared.report.Reply.{Reply}
 use Rattle.td_model.specs.declared.report.Reply.TheVariants as reply
 use Rattle.td_model.specs.declared.report.Mark.TheVariants as mark
@@ -20,14 +20,18 @@ laid_value (Some v) below = v
 laid_value None (Some w) = w
 laid_value None None = Null
 
--- where an entry puts a row, its table is there
-abbrev pub IsOfTable : State → What → Type 0
-IsOfTable s what.MakeTable = Unit {0}
-IsOfTable s (what.Put p) = p.key.table - 1 < length s.tables
+-- an entry that is done whole or not at all: a table is made, or one row is put
+abbrev pub IsOneChange : What → Type 0
+IsOneChange (what.MakeTable name columns) = Unit {0}
+IsOneChange (what.Put []) = ⊥
+IsOneChange (what.Put (p ∷ [])) = Unit {0}
+IsOneChange (what.Put (p ∷ q ∷ ps)) = ⊥
+IsOneChange w = ⊥
 
 abbrev pub accepted_reply : What → ℕ → ℕ → Reply
-accepted_reply what.MakeTable version rows = reply.Accepted version
-accepted_reply (what.Put p) version rows = reply.AcceptedRows version rows
+accepted_reply (what.Put puts) version rows = reply.AcceptedRows version rows
+accepted_reply (what.Edge edge) version rows = reply.AcceptedEdge version edge
+accepted_reply w version rows = reply.Accepted version
 
 -- what a statement is answered; with no verdict there was no memory
 abbrev pub reply_of : Option Verdict → State → Reply

@@ -1,38 +1,43 @@
 //! The state that a script is played on: tables by number, and rows by key, found by search.
-ghost use Rattle.std.specs.Prelude.{◌≡◌, ◌<◌, ◌≤◌, ◌+◌, ◌-◌, ◌^◌, ℕ, pos, [], ◌∷◌, ◌++◌, length, List, OnOk, OnErr, IfOk, IfSome, Some, None, map, position, filter, slice_set, slice_index_or};
-ghost use Rattle.std.specs.Str.{bytes_eq};
-ghost use Rattle.td_model.specs.State.{over, lay, row_at, with_row, raised, later, effect, step, empty_state};
-ghost use Rattle.td_model.specs.Verdict.{number_of, put_of, make_verdict, insert_verdict, select_verdict, verdict, picked, cell_of, cells_of, header, answer_from, answer};
-ghost use Rattle.td_top.specs.Turn.{laid_value, accepted_reply, IsOfTable, TurnIs, TurnAnswers};
+ghost use Rattle.std.specs.Prelude.{◌≡◌, ◌≢◌, ◌<◌, ◌≤◌, ◌+◌, ◌-◌, ◌^◌, ℕ, pos, [], ◌∷◌, ◌++◌, length, List, OnOk, OnErr, IfOk, IfSome, Some, None, map, position};
 ghost use Rattle.std.specs.Option.{option_copied};
+ghost use Rattle.std.specs.Str.{bytes_eq};
 ghost use lib.Chars.{codes};
+ghost use Rattle.td_model.specs.declared.catalog.TableDef.{TableDef};
+ghost use Rattle.td_model.specs.Catalog.{table_named};
+ghost use Rattle.td_model.specs.State.{over, lay, row_at, with_row, raised, later, parent_of, row_put, put_one, effect, step, empty_state};
+ghost use Rattle.td_model.specs.Verdict.{table_columns, put_of, make_verdict, insert_verdict, select_verdict, verdict, picked, cell_of, cells_of, header, answer};
+ghost use Rattle.td_top.specs.Turn.{laid_value, accepted_reply, IsOneChange, TurnIs, TurnAnswers};
 
 use std::alloc::Global;
 use std::collections::BTreeMap;
 use std::marker::Model;
-use td_layer::{Birth, Cell, Key, Name, NoMem, Row, Seq, Value};
-use td_model::{Cause, JournalLine, Kind, Mark, Put, Reply, Form, Verdict, What, in_range};
+use td_layer::{Birth, Cell, Copied, Key, Name, NoMem, Row, Seq, Value};
+use td_model::{
+    Cause, Column, Form, JournalLine, Kind, Mark, Put, Reply, TableDef, Verdict, What, in_range,
+};
 
-/// The tables and their rows.
+/// The tables and their rows, as the state that a history leaves.
 #[derive(Drop)]
 pub struct Tables {
     alloc: Global,
     version: u64,
     moment: u64,
-    names: Seq<Name>,
-    latest: Seq<Option<u64>>,
+    tables: Seq<TableDef>,
+    stable_latest: Seq<Option<u64>>,
+    table_latest: Seq<Option<u64>>,
     rows: BTreeMap<Key, Row>,
 }
 
 impl Model for Tables {
-    ghost use Rattle.std.specs.Prelude.{◌≡◌, ◌<◌, ◌^◌, length};
+    ghost use Rattle.std.specs.Prelude.{◌≡◌, ◌<◌, ◌^◌, [], None, length};
     ghost use Rattle.td_model.specs.State.{State};
 
     ghost Value = { State };
 
-    ghost view = { λ s. record { version = s.version; moment = s.moment; tables = s.names; latest = s.latest; rows = s.rows.entries } };
+    ghost view = { λ s. record { version = s.version; moment = s.moment; catalog = record { stables = []; tables = s.tables; streams = []; next_stream = 1 }; stable_latest = s.stable_latest; table_latest = s.table_latest; rows = s.rows.entries; edge = 0; halt = None } };
 
-    ghost invariant = { λ s. (length s.latest ≡ length s.names) × (length s.names < 2 ^ 32) };
+    ghost invariant = { λ s. length s.tables < 2 ^ 32 };
 }
 
 /// What a statement's turn gives: its reply, and the line of its entry, if it has one.
@@ -51,29 +56,33 @@ impl Tables {
             alloc,
             version: 0,
             moment: 0,
-            names: Seq::new(alloc),
-            latest: Seq::new(alloc),
+            tables: Seq::new(alloc),
+            stable_latest: Seq::new(alloc),
+            table_latest: Seq::new(alloc),
             rows: BTreeMap::new(alloc),
         }
     }
 
     // The number of the table of a name, from 1.
     fn number(&self, name: &[u8]) -> Option<u32>
-        ensures { result ≡ number_of name.now self.now.tables }
+        ensures { result ≡ table_named name.now self.now.catalog }
     {
-        match place_of(self.names.as_slice(), name) {
+        match place_of(self.tables.as_slice(), name) {
             Some(at) => Some(at as u32 + 1),
             None => None,
         }
     }
 
     /// What a statement meets at a moment, or want of memory.
-    pub fn verdict(&self, form: &Form, moment: u64) -> Result<Verdict, NoMem>
-        ensures { IfOk result (λ v. v ≡ verdict form.now self.now moment) }
+    pub fn verdict(&self, form: &Form, _moment: u64) -> Result<Verdict, NoMem>
+        ensures { IfOk result (λ v. v ≡ verdict form.now self.now _moment) }
     {
         let table = self.number(b"t");
         match *form {
-            Form::MakeTable => Ok(make_verdict(table)),
+            Form::MakeTable => {
+                let verdict = make_verdict(self.alloc, table)?;
+                Ok(verdict)
+            }
             Form::Insert { ts, v } => {
                 let verdict = insert_verdict(self.alloc, table, ts, v)?;
                 Ok(verdict)
@@ -96,20 +105,48 @@ impl Tables {
     }
 }
 
-// The place of a name among the names.
-fn place_of(names: &[Name], name: &[u8]) -> Option<usize>
-    ensures value { result ≡ position (λ t. bytes_eq t name.now) names.now }
-    ensures within { IfSome result (λ at. at < length names.now) }
+// The place of a name among the tables.
+fn place_of(tables: &[TableDef], name: &[u8]) -> Option<usize>
+    ensures value { result ≡ position (λ (t : TableDef). bytes_eq t.name name.now) tables.now }
+    ensures within { IfSome result (λ at. at < length tables.now) }
 {
-    names.iter().position(|t| t.as_slice() == name)
+    tables.iter().position(|t| t.name.as_slice() == name)
 }
 
-fn make_verdict(table: Option<u32>) -> Verdict
-    ensures { result ≡ make_verdict table }
+// A column of a name.
+fn column(alloc: Global, name: &[u8], kind: Kind) -> Result<Column, NoMem>
+    ensures { IfOk result (λ c. c ≡ record { name = name.now; kind = kind }) }
+{
+    let name = Seq::of_bytes(alloc, name)?;
+    Ok(Column { name, kind })
+}
+
+// The columns of the one table.
+fn columns(alloc: Global) -> Result<Seq<Column>, NoMem>
+    ensures { IfOk result (λ columns. columns ≡ table_columns) }
+{
+    let mut columns = Seq::new(alloc);
+    let ts = column(alloc, b"ts", Kind::Time)?;
+    if columns.push(ts).is_err() {
+        return Err(NoMem);
+    }
+    let v = column(alloc, b"v", Kind::I32)?;
+    if columns.push(v).is_err() {
+        return Err(NoMem);
+    }
+    Ok(columns)
+}
+
+fn make_verdict(alloc: Global, table: Option<u32>) -> Result<Verdict, NoMem>
+    ensures { IfOk result (λ verdict. verdict ≡ make_verdict table) }
 {
     match table {
-        Some(_) => Verdict::Refuse(Cause::NameTaken),
-        None => Verdict::Accept(What::MakeTable, 0),
+        Some(_) => Ok(Verdict::Refuse(Cause::NameTaken)),
+        None => {
+            let name = Seq::of_bytes(alloc, b"t")?;
+            let columns = columns(alloc)?;
+            Ok(Verdict::Accept(What::MakeTable { name, columns }, 0))
+        }
     }
 }
 
@@ -151,18 +188,20 @@ fn put_verdict(alloc: Global, table: u32, ts: i128, v: i128) -> Result<Verdict, 
         table,
         ts: ts as u64,
     };
-    let cells = one_cell(alloc, Some(Value::Num(v)))?;
-    Ok(Verdict::Accept(What::Put(Put { key, cells }), 1))
+    let cells = alone(alloc, Some(Value::Num(v)))?;
+    let puts = alone(alloc, Put { key, cells })?;
+    Ok(Verdict::Accept(What::Put(puts), 1))
 }
 
-fn one_cell(alloc: Global, cell: Option<Value>) -> Result<Seq<Option<Value>>, NoMem>
-    ensures { IfOk result (λ cells. cells ≡ cell ∷ []) }
+// The list of one item.
+fn alone<T: Drop>(alloc: Global, item: T) -> Result<Seq<T>, NoMem>
+    ensures { IfOk result (λ items. items ≡ item ∷ []) }
 {
-    let mut cells = Seq::new(alloc);
-    if cells.push(cell).is_err() {
+    let mut items = Seq::new(alloc);
+    if items.push(item).is_err() {
         return Err(NoMem);
     }
-    Ok(cells)
+    Ok(items)
 }
 
 // The cells of each row of a table, by timestamp.
@@ -287,76 +326,125 @@ fn later(latest: Option<u64>, ts: u64) -> Option<u64>
     }
 }
 
-// Raises the greatest timestamp of a key's table.
-fn raise(latest: &mut Seq<Option<u64>>, key: Key)
-    requires { key.table - 1 < length latest.old }
-    ensures { latest.new ≡ raised latest.old key }
+// Raises the greatest timestamp of a number, from 1, if it is among them.
+fn raise(latest: &mut Seq<Option<u64>>, number: u32, ts: u64)
+    ensures { latest.new ≡ raised latest.old number ts }
 {
-    let at = key.table.saturating_sub(1) as usize;
-    let raised = later(latest.as_slice()[at], key.ts);
-    latest.set(at, raised);
+    let at = number.saturating_sub(1) as usize;
+    if at < latest.len() {
+        let raised = later(latest.as_slice()[at], ts);
+        latest.set(at, raised);
+    }
+}
+
+// The number of the supertable of a table, if it has one.
+fn parent_of(table: Option<&TableDef>) -> Option<u32>
+    ensures { result ≡ parent_of (option_copied table.entry) }
+{
+    match table {
+        Some(table) => table.parent,
+        None => None,
+    }
 }
 
 fn accepted_reply(what: &What, version: u64, rows: u32) -> Reply
     ensures { result ≡ accepted_reply what.now version rows }
 {
     match what {
-        What::MakeTable => Reply::Accepted { version },
         What::Put(_) => Reply::AcceptedRows { version, rows },
+        What::Edge(edge) => Reply::AcceptedEdge {
+            version,
+            edge: *edge,
+        },
+        _ => Reply::Accepted { version },
     }
 }
 
 impl Tables {
-    // Makes the one table.
-    fn make_table(&mut self) -> Result<(), NoMem>
-        ensures ok { OnOk result (self.new ≡ record self.old { tables = self.old.tables ++ codes "t" ∷ []; latest = self.old.latest ++ None ∷ [] }) }
+    // Makes a plain table.
+    fn make_table(&mut self, name: &Name, columns: &Seq<Column>) -> Result<(), NoMem>
+        ensures ok { OnOk result (self.new ≡ effect (What.MakeTable name.now columns.now) self.old) }
         ensures err { OnErr result (self.new ≡ self.old) }
     {
-        if self.names.len() >= 4294967295 {
+        if self.tables.len() >= 4294967295 {
             return Err(NoMem);
         }
-        let name = Seq::of_bytes(self.alloc, b"t")?;
-        if self.latest.push(None).is_err() {
+        let table = TableDef {
+            name: name.copy()?,
+            parent: None,
+            columns: columns.copy()?,
+            tags: Seq::new(self.alloc),
+        };
+        if self.table_latest.push(None).is_err() {
             return Err(NoMem);
         }
-        if self.names.push(name).is_err() {
-            let _ = self.latest.pop();
+        if self.tables.push(table).is_err() {
+            let _ = self.table_latest.pop();
             return Err(NoMem);
         }
         Ok(())
     }
 
-    // Lays a row at a moment.
-    fn put(&mut self, put: &Put, moment: u64) -> Result<(), NoMem>
-        requires { put.now.key.table - 1 < length self.old.tables }
-        ensures ok { OnOk result (self.new ≡ record self.old { latest = raised self.old.latest put.now.key; rows = with_row put.now.key (lay put.now.cells moment (row_at put.now.key self.old.rows)) self.old.rows }) }
+    // Lays the row of a put.
+    fn put(&mut self, put: &Put) -> Result<(), NoMem>
+        ensures ok { OnOk result (self.new ≡ put_one put.now self.old) }
         ensures err { OnErr result (self.new ≡ self.old) }
     {
         let row = lay(
             self.alloc,
             put.cells.as_slice(),
-            moment,
+            self.moment,
             self.rows.get(&put.key),
         )?;
         self.rows.insert(put.key, row)?;
-        raise(&mut self.latest, put.key);
+        let at = put.key.table.saturating_sub(1) as usize;
+        match parent_of(self.tables.get(at)) {
+            None => raise(&mut self.table_latest, put.key.table, put.key.ts),
+            Some(stable) => raise(&mut self.stable_latest, stable, put.key.ts),
+        }
         Ok(())
+    }
+
+    // Does what an entry does, once the version and the moment are its own.
+    fn effect(&mut self, what: &What) -> Result<(), NoMem>
+        requires { IsOneChange what.now }
+        ensures ok { OnOk result (self.new ≡ effect what.now self.old) }
+        ensures err { OnErr result (self.new ≡ self.old) }
+    {
+        match what {
+            What::MakeTable { name, columns } => {
+                self.make_table(name, columns)?;
+                Ok(())
+            }
+            What::Put(puts) => match puts.as_slice() {
+                [put] => {
+                    self.put(put)?;
+                    Ok(())
+                }
+                _ => unreachable!(),
+            },
+            _ => unreachable!(),
+        }
     }
 
     // Takes an accepted entry in at a moment.
     fn accept(&mut self, moment: u64, what: &What) -> Result<(), NoMem>
         requires version { self.old.version + 1 < 2 ^ 64 }
-        requires table { IsOfTable self.old what.now }
+        requires change { IsOneChange what.now }
         ensures ok { (session ordinal : ℕ) → OnOk result (self.new ≡ step self.old (record { session = session; ordinal = ordinal; moment = moment; what = what.now })) }
         ensures err { OnErr result (self.new ≡ self.old) }
     {
-        match what {
-            What::MakeTable => self.make_table()?,
-            What::Put(put) => self.put(put, moment)?,
-        }
+        let before = self.moment;
         self.version += 1;
         self.moment = moment;
-        Ok(())
+        match self.effect(what) {
+            Ok(()) => Ok(()),
+            Err(NoMem) => {
+                self.version -= 1;
+                self.moment = before;
+                Err(NoMem)
+            }
+        }
     }
 
     // What a query is answered.

@@ -9,13 +9,13 @@ ghost use Rattle.td_top.specs.Status.{Tells, is_dir, dir_of, outside, Ended, Say
 use crate::parse::{ScriptFault, script_of};
 use crate::state::Tables;
 use crate::stream::{ReadFault, read_all, write_all};
-use crate::text::report_bytes;
 use std::alloc::Global;
 use std::sync::Wait;
 use std::thread::Threads;
 use td_layer::{NoMem, Seq};
 use td_model::{JournalLine, Reply, Report, Form};
 use td_outside::{Clock, Failed, Gate, Place, Sink, Source};
+use td_report::report;
 
 /// How the program ends.
 #[derive(Clone, Copy, Debug, PartialEq, Eq)]
@@ -81,6 +81,7 @@ pub fn play_script<C: Clock>(alloc: Global, script: &[Form], clock: &mut C) -> R
     Ok(Report {
         base: 0,
         replies,
+        streams: Seq::new(alloc),
         journal,
     })
 }
@@ -90,8 +91,8 @@ fn report_of<I: Source, C: Clock>(
     alloc: Global,
     input: &mut I,
     clock: &mut C,
-) -> Result<Vec<u8>, Status>
-    ensures told { IfOk result (λ text. Tells (C.readings clock.old) (I.left input.old) (I.left input.new) text.items) }
+) -> Result<Seq<u8>, Status>
+    ensures told { IfOk result (λ text. Tells (C.readings clock.old) (I.left input.old) (I.left input.new) text) }
     ensures calm { OnOk result (I.count input.new ≡ I.count input.old) }
     ensures ended { IfErr result (λ status. Ended (I.left input.old) (I.left input.new) (I.count input.old) (I.count input.new) status) }
     ensures few { TookFew (I.left input.old) (I.left input.new) }
@@ -107,12 +108,12 @@ fn report_of<I: Source, C: Clock>(
         Err(ScriptFault::NoMemory) => return Err(Status::NoMemory),
         Err(ScriptFault::NotBuilt(line)) => return Err(Status::NotBuilt(line)),
     };
-    let Ok(report) = play_script(alloc, script.as_slice(), clock) else {
+    let Ok(told) = play_script(alloc, script.as_slice(), clock) else {
         return Err(Status::NoMemory);
     };
-    match report_bytes(alloc, &report) {
+    match report(alloc, &told) {
         Ok(text) => Ok(text),
-        Err(_) => Err(Status::NoMemory),
+        Err(NoMem) => Err(Status::NoMemory),
     }
 }
 

@@ -1,5 +1,5 @@
 use Rattle.std.proofs.Common.{◌≡◌, ◌≤◌, ◌+◌, ◌++◌, ap, sym, subst, take, arith, ◌∙◌}
-use Rattle.td_model.specs.declared.words.Form.TheVariants.{MakeTable}
+use Rattle.td_model.specs.declared.forms.Form.TheVariants.{MakeTable}
 use Rattle.td_model.specs.State.{State, empty_state}
 use Rattle.td_top.proofs.Plays.{plays_next, nothing_played}
 use Rattle.std.proofs.lemmas.List.{take_all}
