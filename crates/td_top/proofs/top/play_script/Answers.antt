@@ -1,9 +1,10 @@
-use Rattle.std.proofs.Common.{◌≡◌, ◌≤◌, ◌+◌, ◌++◌, ap, sym, subst, take, arith, ◌∙◌}
+use Rattle.std.proofs.Common.{◌≡◌, ◌≤◌, ◌+◌, ◌++◌, ℕ, List, ap, sym, subst, take, arith, ◌∙◌}
 use Rattle.td_model.specs.declared.forms.Form.TheVariants.{MakeTable}
 use Rattle.td_model.specs.State.{State, empty_state}
 use Rattle.td_top.proofs.Plays.{plays_next, nothing_played}
 use Rattle.std.proofs.lemmas.List.{take_all}
 use Rattle.td_top.proofs.Clocks.{MomentIs, left_next, moment_next, left_first, moment_first, times}
+use Rattle.td_model.specs.Told.{ToldInOrder}
 use Rattle.td_top.proofs.Tells.{told_of_plays}
 use Rattle.td_top.proofs.top.play_script.Goals as goal
 
@@ -27,7 +28,11 @@ loop-i-preserved g c =
     }
 
 pub returns : goal.returns
-returns g c = told_of_plays (MomentIs (g.C.Clock.readings c.args.clock.now)) empty_state (g.C.Clock.readings c.args.clock.now) (times (g.C.Clock.readings c.args.clock.now)) c.args.script.now c.loop-i.replies c.loop-i.journal c.loop-i.tables (rw (sym (take_all c.loop-i.i c.args.script.now c.loop-i-test.false)) c.loop-i.invariant.played)
+returns g c =
+    let readings = g.C.Clock.readings c.args.clock.now in
+    let script = c.args.script.now in
+    let told = told_of_plays (MomentIs readings) empty_state readings (times readings) script c.loop-i.replies c.loop-i.journal c.loop-i.tables (rw (sym (take_all c.loop-i.i script c.loop-i-test.false)) c.loop-i.invariant.played) in
+    subst (λ (x : List (List ℕ × ℕ)). ToldInOrder empty_state readings script (record { base = 0; replies = c.loop-i.replies; streams = x; journal = c.loop-i.journal })) (sym c.new.ensures) told
 
 pub loop-i-init : goal.loop-i-init
 loop-i-init g c =
