@@ -5,8 +5,8 @@ use Rattle.std.specs.Io.KnownBytes.{Consumes, IsAtEnd}
 use Rattle.td_outside.specs.Causes.{Rose}
 use Rattle.td_model.specs.declared.forms.Form.{Form}
 use Rattle.td_model.specs.Script.{IsStatement, IsScript, none, line, FirstOutside, here, later, NoLine}
-use Rattle.td_top.specs.declared.top.Status.{Status}
-use Rattle.td_top.specs.declared.top.Status.TheVariants as status
+use Rattle.td_top.specs.declared.status.Status.{Status}
+use Rattle.td_top.specs.declared.status.Status.TheVariants as status
 use Rattle.td_top.specs.Parse.{parted_at}
 use Rattle.td_top.specs.Stream.{ReadWhole, ReadTooMuch}
 use Rattle.td_top.specs.Status.{Outside, Says, Completes, IsUnlessMemory}

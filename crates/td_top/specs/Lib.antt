@@ -3,3 +3,4 @@ pub mod Parse
 pub mod Stream
 pub mod Turn
 pub mod Status
+pub mod Exit

@@ -11,8 +11,8 @@ use Rattle.td_model.specs.Script.{IsScript, FirstOutside}
 use Rattle.td_model.specs.Told.{ToldInOrder}
 use Rattle.td_model.specs.Text.{report_text}
 use Rattle.td_top.specs.Stream.{ReadWhole, ReadTooMuch, WroteFront}
-use Rattle.td_top.specs.declared.top.Status.{Status}
-use Rattle.td_top.specs.declared.top.Status.TheVariants as status
+use Rattle.td_top.specs.declared.status.Status.{Status}
+use Rattle.td_top.specs.declared.status.Status.TheVariants as status
 
 -- a directory's name isn't empty and doesn't begin with a dash
 abbrev pub is_dir : List ℕ → Bool

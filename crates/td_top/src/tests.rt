@@ -1,5 +1,6 @@
 //! Whole scripts with their reports, over devices in memory.
-use crate::top::{Status, play, vnode};
+use crate::status::Status;
+use crate::top::{play, vnode};
 use std::alloc::Global;
 use std::test::Fail;
 use td_layer::{NoMem, Seq};
@@ -172,6 +173,30 @@ fn only_play_and_one_directory_are_words(rt: HostRuntime) -> Result<(), Fail> {
         );
         assert_eq!(rt; found, status);
         assert_eq!(rt; out.bytes().is_empty(), status == Status::Usage);
+    }
+    Ok(())
+}
+
+#[test]
+fn each_status_has_its_number_and_line(rt: HostRuntime) -> Result<(), Fail> {
+    let alloc = rt.alloc();
+    let table: [(Status, u8, &str); 7] = [
+        (Status::Done, 0, ""),
+        (Status::NoMemory, 1, "no memory"),
+        (
+            Status::Usage,
+            2,
+            "usage: td_vnode play DIR, run DIR, gen N DIR",
+        ),
+        (Status::TooLarge, 4, "script too large"),
+        (Status::InputFault, 5, "input fault"),
+        (Status::OutputFault, 6, "output fault"),
+        (Status::NotBuilt(12), 10, "not built: line 12"),
+    ];
+    for (status, number, line) in table {
+        assert_eq!(rt; status.exit_number(), number);
+        let text = format!(in alloc; "{}", status)?;
+        assert_eq!(rt; text.as_str(), line);
     }
     Ok(())
 }

@@ -8,6 +8,7 @@ ghost use Rattle.td_top.specs.Status.{Tells, is_dir, dir_of, outside, Ended, Say
 
 use crate::parse::{ScriptFault, script_of};
 use crate::state::Tables;
+use crate::status::Status;
 use crate::stream::{ReadFault, read_all, write_all};
 use std::alloc::Global;
 use std::sync::Wait;
@@ -16,25 +17,6 @@ use td_layer::{NoMem, Seq};
 use td_model::{JournalLine, Reply, Report, Form};
 use td_outside::{Clock, Failed, Gate, Place, Sink, Source};
 use td_report::report;
-
-/// How the program ends.
-#[derive(Clone, Copy, Debug, PartialEq, Eq)]
-pub enum Status {
-    /// The report was written.
-    Done,
-    /// There was no memory. Nothing was written.
-    NoMemory,
-    /// The words aren't a command. Nothing was read or written.
-    Usage,
-    /// More than 67108864 bytes stand before the input's end. Nothing was written.
-    TooLarge,
-    /// The line, from 1, is the first that is of no form that is built. Nothing was written.
-    NotBuilt(u64),
-    /// A read failed. Nothing was written.
-    InputFault,
-    /// A write failed. What was written is a front of the report.
-    OutputFault,
-}
 
 fn push_reply(
     replies: &mut Seq<(u32, u32, Reply)>,

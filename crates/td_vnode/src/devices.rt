@@ -1,9 +1,16 @@
 //! The real devices. Each counts its faults, and tells nothing of what it holds.
-ghost use Rattle.std.specs.Prelude.{◌≡◌, None, ◌≤◌};
+ghost use Rattle.std.specs.Prelude.{◌≡◌, ◌+◌, ◌-◌, ◌^◌, ◌≤◌, None, min};
 
 use std::io::{ErrorKind, Read, Write};
 use std::time::SystemTime;
 use td_outside::{Clock, Failed, Sink, Source};
+
+// A count of faults after one more, up to the number's end.
+fn one_more(faults: u64) -> u64
+    ensures { result ≡ min (faults + 1) (2 ^ 64 - 1) }
+{
+    faults.saturating_add(1)
+}
 
 /// A reader of std as a source. A read that was interrupted is made again.
 #[derive(Drop)]
@@ -14,7 +21,9 @@ pub struct StandardInput<R: Read> {
 
 impl<R: Read> StandardInput<R> {
     /// The source of a reader, without a fault so far.
-    pub fn new(inner: R) -> StandardInput<R> {
+    pub fn new(inner: R) -> StandardInput<R>
+        ensures { result.faults ≡ 0 }
+    {
         StandardInput { inner, faults: 0 }
     }
 }
@@ -35,7 +44,7 @@ impl<R: Read> Source for StandardInput<R> {
                 }
             }
         }
-        self.faults = self.faults.saturating_add(1);
+        self.faults = one_more(self.faults);
         Err(Failed)
     }
 
@@ -54,7 +63,9 @@ pub struct StandardOutput<W: Write> {
 
 impl<W: Write> StandardOutput<W> {
     /// The sink of a writer, without a fault so far.
-    pub fn new(inner: W) -> StandardOutput<W> {
+    pub fn new(inner: W) -> StandardOutput<W>
+        ensures { result.faults ≡ 0 }
+    {
         StandardOutput { inner, faults: 0 }
     }
 }
@@ -80,7 +91,7 @@ impl<W: Write> Sink for StandardOutput<W> {
                 }
             }
         }
-        self.faults = self.faults.saturating_add(1);
+        self.faults = one_more(self.faults);
         Err(Failed)
     }
 
@@ -103,7 +114,9 @@ const LAST_MOMENT: u128 = 253402300799999;
 
 impl SystemClock {
     /// The clock of the system.
-    pub fn new(rt: HostRuntime) -> SystemClock {
+    pub fn new(rt: HostRuntime) -> SystemClock
+        ensures { result.last ≡ 0 }
+    {
         SystemClock { rt, last: 0 }
     }
 }

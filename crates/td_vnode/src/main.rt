@@ -41,30 +41,10 @@ fn main(rt: HostRuntime) -> ExitCode {
     ended(&rt, status)
 }
 
-// Prints the line of a status, and gives its exit number.
+// Prints the line of a status, if it has one, and gives its exit number.
 fn ended(rt: &impl Eprint, status: Status) -> ExitCode {
-    let printed = match status {
-        Status::Done => Ok(()),
-        Status::NoMemory => eprintln!(rt; "no memory"),
-        Status::Usage => eprintln!(rt; "usage: td_vnode play DIR, run DIR, gen N DIR"),
-        Status::TooLarge => eprintln!(rt; "script too large"),
-        Status::NotBuilt(line) => eprintln!(rt; "not built: line {line}"),
-        Status::InputFault => eprintln!(rt; "input fault"),
-        Status::OutputFault => eprintln!(rt; "output fault"),
-    };
-    drop(printed);
-    ExitCode::from(number(status))
-}
-
-// The exit number of a status.
-fn number(status: Status) -> u8 {
-    match status {
-        Status::Done => 0,
-        Status::NoMemory => 1,
-        Status::Usage => 2,
-        Status::TooLarge => 4,
-        Status::InputFault => 5,
-        Status::OutputFault => 6,
-        Status::NotBuilt(_) => 10,
+    if status != Status::Done {
+        let _ = eprintln!(rt; "{status}");
     }
+    ExitCode::from(status.exit_number())
 }
