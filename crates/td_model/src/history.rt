@@ -14,15 +14,33 @@ pub struct Put {
 /// What an entry of the history does.
 #[derive(Debug, Drop)]
 pub enum What {
-    MakeStable { name: Name, schema: Schema },
-    MakeTable { name: Name, columns: Seq<Column> },
-    MakeSub { name: Name, stable: u32, tags: Seq<Cell> },
+    MakeStable {
+        name: Name,
+        schema: Schema,
+    },
+    MakeTable {
+        name: Name,
+        columns: Seq<Column>,
+    },
+    MakeSub {
+        name: Name,
+        stable: u32,
+        tags: Seq<Cell>,
+    },
     Put(Seq<Put>),
-    Cut { table: u32, lo: u64, hi: u64 },
+    Cut {
+        table: u32,
+        lo: u64,
+        hi: u64,
+    },
     MakeStream(StreamDef),
     DropStream(u32),
     Edge(u32),
-    Step { stream: u32, upto: u64, moment: u64 },
+    Step {
+        stream: u32,
+        upto: u64,
+        moment: u64,
+    },
     Halt,
 }
 

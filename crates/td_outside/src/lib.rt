@@ -12,3 +12,6 @@ mod traits;
 
 pub use memory::{FreeGate, MemPlace, MemSink, MemSource, MemStore, Ticks};
 pub use traits::{Clock, Failed, Gate, GatePoint, IoFault, Place, Sink, Source, Store};
+
+#[cfg(test)]
+mod tests;
