@@ -1,1 +1,5 @@
+pub mod Fronts
 pub mod Numerals
+pub mod Tells
+pub mod Again
+pub mod Readings

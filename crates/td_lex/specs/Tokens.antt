@@ -120,7 +120,7 @@ StandsWide text word after = (text ≡ word ++ after) × IsWide word × BeginsNo
 -- behind its last.
 abbrev pub Reads : ℕ → List ℕ → List Spanned → List ℕ → Type 0
 Reads at text [] rest = (gap : List ℕ) × (list_all is_blank gap ≡ true) × (text ≡ gap ++ rest)
-Reads at text (t ∷ ts) rest = (gap : List ℕ) × (word : List ℕ) × (after : List ℕ) × (list_all is_blank gap ≡ true) × (text ≡ gap ++ word ++ after)
+Reads at text (t ∷ ts) rest = (gap : List ℕ) × (word : List ℕ) × (after : List ℕ) × (list_all is_blank gap ≡ true) × (text ≡ gap ++ (word ++ after))
     × Stands t.token (word ++ after) word after × (t.at ≡ at + length gap) × (t.end ≡ t.at + length word) × Reads t.end after ts rest
 
 -- the whole text is these tokens
