@@ -20,7 +20,7 @@ use Rattle.td_lex.proofs.Fronts.{both, together, front_is, take_is, drop_is}
 use Rattle.td_lex.proofs.Numerals.{after_sign, plain_sign}
 use Rattle.td_lex.proofs.Tells.{equal_bytes, same_byte, less}
 
-lt_yes : (a b : ℕ) → a < b → nat_lt a b ≡ true
+pub lt_yes : (a b : ℕ) → a < b → nat_lt a b ≡ true
 lt_yes a b h = grind (arith, nat_tests)
 
 lt_no : (a b : ℕ) → ¬ (a < b) → nat_lt a b ≡ false
@@ -86,7 +86,7 @@ word_again (b ∷ bs) after h k = word_branch b (bs ++ after) h.0 ∙ rw (take_i
 digit_test : (b : ℕ) → digit_value b < 10 → is_ascii_digit b ≡ true
 digit_test b h = let r = digit_from_value b h in grind (arith, nat_tests)
 
-digits_test : (ds : List ℕ) → AllDigits 10 ds → list_all is_ascii_digit ds ≡ true
+pub digits_test : (ds : List ℕ) → AllDigits 10 ds → list_all is_ascii_digit ds ≡ true
 digits_test [] h = refl
 digits_test (d ∷ ds) h = together (is_ascii_digit d) (list_all is_ascii_digit ds) (digit_test d h.0) (digits_test ds h.1)
 

@@ -1,3 +1,5 @@
 pub mod Tokens
 pub mod Lexing
 pub mod Pieces
+pub mod Times
+pub mod Stamps

@@ -4,6 +4,8 @@
 mod kinds;
 mod lexer;
 mod scan;
+mod times;
 
-pub use kinds::{LexFault, Spanned, Token};
+pub use kinds::{LexFault, Spanned, TimeFault, Token};
 pub use lexer::tokens;
+pub use times::timestamp;
