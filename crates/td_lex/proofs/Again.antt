@@ -83,7 +83,7 @@ word_again [] after h k = absurd h.0
 word_again (b ∷ bs) after h k = word_branch b (bs ++ after) h.0 ∙ rw (take_is is_word_byte (b ∷ bs) after h.1 k, drop_is is_word_byte (b ∷ bs) after h.1 k) refl
 
 -- numbers and durations
-digit_test : (b : ℕ) → digit_value b < 10 → is_ascii_digit b ≡ true
+pub digit_test : (b : ℕ) → digit_value b < 10 → is_ascii_digit b ≡ true
 digit_test b h = let r = digit_from_value b h in grind (arith, nat_tests)
 
 pub digits_test : (ds : List ℕ) → AllDigits 10 ds → list_all is_ascii_digit ds ≡ true

@@ -6,3 +6,6 @@ pub mod Readings
 pub mod ShortNumbers
 pub mod DayNumbers
 pub mod StampsRead
+pub mod OneAnswer
+pub mod Places
+pub mod Printed

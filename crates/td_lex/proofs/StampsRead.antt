@@ -267,3 +267,6 @@ reads_time text n (s, is, whole, says) = ap timestamp_of whole ∙ timestamp_aga
 pub says_time : (text : List ℕ) (o : Option ℤ) → o ≡ timestamp_of text → SaysTime text (ok_or o BadTime)
 says_time text None h = λ n is. let read = reads_time text n is in cc
 says_time text (Some n) h = timestamp_found text n (sym h)
+
+pub one_time : (text : List ℕ) (m n : ℤ) → IsTimestamp text m → IsTimestamp text n → m ≡ n
+one_time text m n h k = let first = reads_time text m h in let second = reads_time text n k in cc

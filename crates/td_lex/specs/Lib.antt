@@ -3,3 +3,4 @@ pub mod Lexing
 pub mod Pieces
 pub mod Times
 pub mod Stamps
+pub mod Laws

@@ -1,6 +1,7 @@
 //! A text as a list of tokens.
-ghost use Rattle.std.specs.Prelude.{◌≡◌, ◌+◌, length};
+ghost use Rattle.std.specs.Prelude.{◌≡◌, ◌+◌, length, IfOk};
 ghost use Rattle.td_lex.specs.Tokens.{Answers};
+ghost use Rattle.td_lex.specs.Laws.{AreSpans};
 ghost use Rattle.td_lex.specs.Lexing.{fault_of};
 
 use crate::kinds::{LexFault, Spanned, Stop};
@@ -12,7 +13,9 @@ use td_layer::Seq;
 /// tokens has `BadToken` or `TooWide` with the place, in bytes from 0, at which its first token of no form begins, or its
 /// first number or duration that is too wide, whichever comes first from the left.
 pub fn tokens(alloc: Global, text: &[u8]) -> Result<Seq<Spanned>, LexFault>
-    ensures { Answers text.now result }
+    ensures answer { Answers text.now result }
+    // Each token's text is the slice of its source, and the spans are in order.
+    ensures spans { IfOk result (λ ts. AreSpans text.now 0 ts) }
 {
     let mut found = Seq::new(alloc);
     let mut rest = past_blanks(text);
