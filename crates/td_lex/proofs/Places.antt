@@ -143,5 +143,5 @@ joined_by_a_blank front text b ts us h x y =
     let all : list_all is_blank (b ∷ []) ≡ true = rw h refl in
     let place : (length front + 1) + 0 ≡ (0 + length front) + length (b ∷ []) = omega arith in
     join_from ts (moved (length front + 1) us) 0 front b text [] h x (
-      after_gap (0 + length front) (b ∷ []) text (moved (length front + 1) us) [] all (
-        subst (λ n. Reads n text (moved (length front + 1) us) []) place (moved_reads us (length front + 1) 0 text [] y)))
+    after_gap (0 + length front) (b ∷ []) text (moved (length front + 1) us) [] all (
+    subst (λ n. Reads n text (moved (length front + 1) us) []) place (moved_reads us (length front + 1) 0 text [] y)))

@@ -235,7 +235,7 @@ unfolding timestamp_of
 timestamp_again s h = ap timestamp_of (flat_is s) ∙ rw (
   date_again s.year s.month s.day (32 ∷ clock_text s) h.year h.month h.day h.date,
   clock_again s.hour s.minute s.second (fraction_text s.fraction) h.hour h.minute h.second h.hours h.minutes h.seconds,
-  fraction_again s.fraction h.fraction.0 h.fraction.1
+  fraction_again s.fraction h.fraction.0 h.fraction.1,
 ) refl
 
 sums : {day days : ℤ} {second seconds fraction fractions : ℕ} → day ≡ days → second ≡ seconds → fraction ≡ fractions → pos 86400000 *ℤ day +ℤ pos (second + fraction) ≡ pos 86400000 *ℤ days +ℤ pos (seconds + fractions)

@@ -81,10 +81,10 @@ unfolding unsigned_of
 unsigned_tells text h =
     let n : ℕ = prefix_len is_ascii_digit text in
     subst (λ t. Tells t (cond (ends (drop n text)) (whole_of (take n text) (drop n text)) (duration_of (take n text) (drop n text)))) (take-append-drop n text) (
-      elim (ends (drop n text)) as (λ t. ends (drop n text) ≡ t → Tells (take n text ++ drop n text) (cond t (whole_of (take n text) (drop n text)) (duration_of (take n text) (drop n text)))) [
-        | true ↦ λ e. whole_tells (take n text) (drop n text) (front_number text h) (ends_not (drop n text) e)
-        | false ↦ λ e. duration_tells (take n text) (drop n text) (front_numeral text h)
-      ] refl)
+    elim (ends (drop n text)) as (λ t. ends (drop n text) ≡ t → Tells (take n text ++ drop n text) (cond t (whole_of (take n text) (drop n text)) (duration_of (take n text) (drop n text)))) [
+      | true ↦ λ e. whole_tells (take n text) (drop n text) (front_number text h) (ends_not (drop n text) e)
+      | false ↦ λ e. duration_tells (take n text) (drop n text) (front_numeral text h)
+    ] refl)
 
 signed_tells : (text : List ℕ) → Begins is_sign text → Tells text (signed_of text)
 unfolding signed_of
@@ -94,7 +94,7 @@ signed_tells text h =
       | true ↦ λ e.
           let f = both (nat_lt 0 n) (ends (drop (1 + n) text)) e in
           subst (λ t. Tells t (whole_of (take (1 + n) text) (drop (1 + n) text))) (take-append-drop (1 + n) text) (
-            whole_tells (take (1 + n) text) (drop (1 + n) text) (signed_number text n h refl (less 0 n f.0)) (ends_not (drop (1 + n) text) f.1))
+          whole_tells (take (1 + n) text) (drop (1 + n) text) (signed_number text n h refl (less 0 n f.0)) (ends_not (drop (1 + n) text) f.1))
       | false ↦ λ e. tt
     ] refl
 

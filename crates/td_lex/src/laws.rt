@@ -14,41 +14,34 @@ ghost use Rattle.td_lex.specs.Laws.{alone, moved, Moment, Exists, full, since_19
 /// the first failure is one, in its place and its cause.
 pub fn one_answer()
     ensures { (text : List ℕ) (a b : Result (List Spanned) LexFault) → a ≢ Err NoMemory → b ≢ Err NoMemory → Answers text a → Answers text b → a ≡ b }
-{
-}
+{}
 
 /// A token's text alone is that token.
 pub fn one_token()
     ensures { (text : List ℕ) (token : Token) → IsToken text token → IsTokens text (alone token (length text)) }
-{
-}
+{}
 
 /// A text that is cut where one of its tokens ends is the tokens up to there, also where the text fails further on.
 pub fn cut_at_a_token()
     ensures { (text rest : List ℕ) (ts us : List Spanned) (t : Spanned) → Reads 0 text (ts ++ t ∷ us) rest → IsTokens (take t.end text) (ts ++ t ∷ []) }
-{
-}
+{}
 
 /// A text of tokens, a blank and a text of tokens are the tokens of both.
 pub fn joined_by_a_blank()
     ensures { (front text : List ℕ) (blank : ℕ) (ts us : List Spanned) → is_blank blank ≡ true → IsTokens front ts → IsTokens text us → IsTokens (front ++ blank ∷ text) (ts ++ moved (length front + 1) us) }
-{
-}
+{}
 
 /// A number's decimal text is read as the number.
 pub fn printed_number()
     ensures { (n : ℤ) → FitsSigned w128 n → IsTokens (signed_decimal n) (alone (Token.Num n) (length (signed_decimal n))) }
-{
-}
+{}
 
 /// A text says one time at most.
 pub fn one_time()
     ensures { (text : List ℕ) (m n : ℤ) → IsTimestamp text m → IsTimestamp text n → m ≡ n }
-{
-}
+{}
 
 /// The full form of a moment is read as that moment.
 pub fn printed_time()
     ensures { (m : Moment) → Exists m → IsTimestamp (stamp_text (full m)) (since_1970 m) }
-{
-}
+{}

@@ -51,7 +51,10 @@ fn is_text_byte(b: u8) -> bool
 fn is_unit(b: u8) -> bool
     ensures { result ≡ is_unit b }
 {
-    matches!(b.to_ascii_lowercase(), b'a' | b'b' | b'd' | b'h' | b'm' | b'n' | b's' | b'u' | b'w' | b'y')
+    matches!(
+        b.to_ascii_lowercase(),
+        b'a' | b'b' | b'd' | b'h' | b'm' | b'n' | b's' | b'u' | b'w' | b'y'
+    )
 }
 
 fn is_symbol(b: u8) -> bool

@@ -40,7 +40,7 @@ pub returns-in-Err-clause-answer : goal.returns-in-Err-clause-answer
 returns-in-Err-clause-answer c =
     let some = not_empty c.loop-rest.rest.now (sym c.is_empty.ensures ∙ c.loop-rest-test.true) in
     subst (λ (f : LexFault). Answers c.args.text.now (Err f)) (sym c.fault.ensures) (
-      stopped c.args.text.now c.loop-rest.rest.now c.loop-rest.found (length c.args.text.now - length c.loop-rest.rest.now) c.in-Err.stop some c.loop-rest.invariant.apart refl c.loop-rest.invariant.within c.loop-rest.invariant.so_far c.in-Err.ensures)
+    stopped c.args.text.now c.loop-rest.rest.now c.loop-rest.found (length c.args.text.now - length c.loop-rest.rest.now) c.in-Err.stop some c.loop-rest.invariant.apart refl c.loop-rest.invariant.within c.loop-rest.invariant.so_far c.in-Err.ensures)
 
 pub returns-clause-answer : goal.returns-clause-answer
 returns-clause-answer c = all_read c.args.text.now c.loop-rest.rest.now c.loop-rest.found (grind (arith, nat_tests)) c.loop-rest.invariant.so_far
