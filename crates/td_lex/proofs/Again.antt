@@ -1,10 +1,10 @@
 -- What stands at the front of a text is read there.
-use Rattle.std.proofs.Common.{◌≡◌, ◌≢◌, ℕ, ℤ, suc, ◌+◌, ◌<◌, ◌≤◌, ◌^◌, Bool, true, false, cond, ◌&&◌, ◌||◌, ◌==◌, not, nat_lt, ◌⊎◌, inl, inr, List, [], ◌∷◌, ◌++◌, length, take, drop, map, Option, Some, None, Result, Ok, Err, FitsSigned, refl, sym, ap, subst, ◌∙◌, arith, add-one, add_comm, append_assoc, get_or}
+use Rattle.std.proofs.Common.{◌≡◌, ◌≢◌, ℕ, ◌+◌, ◌<◌, ◌≤◌, ◌^◌, Bool, true, false, cond, ◌&&◌, ◌||◌, ◌==◌, not, nat_lt, inl, inr, List, [], ◌∷◌, ◌++◌, length, take, drop, map, Some, Ok, Err, FitsSigned, refl, sym, ap, subst, ◌∙◌, arith, add-one, add_comm, append_assoc, get_or}
 use lib.Signed.{mag}
 use Rattle.std.specs.Int.{w128}
 use Rattle.std.specs.Char.{is_ascii_digit, to_ascii_lowercase, digit_value}
-use Rattle.std.specs.List.{prefix_len, list_all}
-use Rattle.std.specs.Str.{is_utf8, IsUtf8}
+use Rattle.std.specs.List.{list_all}
+use Rattle.std.specs.Str.{IsUtf8}
 use Rattle.std.specs.Str.Parse.{IsNumeral, AllDigits, digits_value, signed_digits_value, without_leading_sign}
 use Rattle.std.proofs.lemmas.Bool.Decides.{nat_tests}
 use Rattle.std.proofs.Math.Seq.{take-append_seam, drop-append_seam}
@@ -12,13 +12,12 @@ use Rattle.std.proofs.lemmas.Str.{is_utf8-from_IsUtf8}
 use Rattle.std.proofs.lemmas.Str.Parse.{digit_from_value}
 use Rattle.td_lex.specs.declared.kinds.Token.{Token}
 use Rattle.td_lex.specs.declared.kinds.Token.TheVariants.{Word, Num, Dur, Str, Sym, Le, Ge, Ne}
-use Rattle.td_lex.specs.declared.kinds.Stop.{Stop}
-use Rattle.td_lex.specs.declared.kinds.Stop.TheVariants.{NoForm, Wide, NoMemory}
-use Rattle.td_lex.specs.Tokens.{is_blank, is_word_start, is_word_byte, is_sign, is_quote, is_text_byte, is_unit, is_symbol, goes_on, Begins, BeginsNot, IsWord, IsNumber, IsDuration, doubled, quoted, IsToken, IsWide, Ends, Stands, StandsWide, WideFirst}
-use Rattle.td_lex.specs.Lexing.{Reading, ends, word_of, whole_of, count_of, ◌>>=◌, duration_of, unsigned_of, signed_of, and_byte, content_of, text_of, single_of, symbol_of, token_of}
+use Rattle.td_lex.specs.declared.kinds.Stop.TheVariants.{NoForm, Wide}
+use Rattle.td_lex.specs.Tokens.{is_blank, is_word_start, is_word_byte, is_sign, is_quote, is_text_byte, is_unit, is_symbol, goes_on, BeginsNot, IsWord, IsNumber, IsDuration, doubled, quoted, IsToken, IsWide, Ends, Stands, StandsWide}
+use Rattle.td_lex.specs.Lexing.{ends, word_of, whole_of, count_of, ◌>>=◌, duration_of, unsigned_of, signed_of, and_byte, content_of, text_of, symbol_of, token_of}
 use Rattle.td_lex.proofs.Fronts.{both, together, front_is, take_is, drop_is}
-use Rattle.td_lex.proofs.Numerals.{after_sign, plain_sign}
-use Rattle.td_lex.proofs.Tells.{equal_bytes, same_byte, less}
+use Rattle.td_lex.proofs.Numerals.{after_sign}
+use Rattle.td_lex.proofs.Tells.{equal_bytes, same_byte}
 
 pub lt_yes : (a b : ℕ) → a < b → nat_lt a b ≡ true
 lt_yes a b h = grind (arith, nat_tests)

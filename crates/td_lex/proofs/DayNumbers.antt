@@ -1,10 +1,10 @@
 -- The number of a day that the calendar has.
-use Rattle.std.proofs.Common.{◌≡◌, ℕ, ℤ, pos, ◌+◌, ◌≤◌, Bool, true, false, cond, ◌&&◌, nat_le, Option, Some, None, refl, sym, ap, subst, ◌∙◌, arith}
+use Rattle.std.proofs.Common.{◌≡◌, ℕ, ℤ, pos, ◌≤◌, true, ◌&&◌, nat_le, Some, refl, arith}
 use Rattle.std.proofs.lemmas.Bool.Decides.{nat_tests}
 use Rattle.std.proofs.lemmas.Int.{ints}
-use Rattle.jiff_core.specs.Calendar.{IsDate, IsCivilDate, days_in_month, days_from_civil}
+use Rattle.jiff_core.specs.Calendar.{IsDate, days_in_month, days_from_civil}
 use Rattle.td_lex.specs.Stamps.{is_civil_date, day_number_of}
-use Rattle.td_lex.proofs.Fronts.{both, together}
+use Rattle.td_lex.proofs.Fronts.{together}
 
 pub leb_yes : (a b : ℕ) → a ≤ b → nat_le a b ≡ true
 leb_yes a b h = grind (arith, nat_tests)

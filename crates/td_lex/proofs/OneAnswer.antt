@@ -1,14 +1,13 @@
 -- A text has one answer.
-use Rattle.std.proofs.Common.{◌≡◌, ◌≢◌, ℕ, ◌+◌, ◌-◌, ◌<◌, ◌≤◌, Bool, true, false, List, [], ◌∷◌, ◌++◌, length, Option, Some, None, Result, Ok, Err, refl, sym, ap, subst, ◌∙◌, arith, append_assoc, length-append}
+use Rattle.std.proofs.Common.{◌≡◌, ◌≢◌, ℕ, ◌+◌, true, false, List, [], ◌∷◌, ◌++◌, length, Result, Ok, Err, refl, sym, ap, subst, ◌∙◌, arith}
 use Rattle.std.specs.List.{list_all}
 use Rattle.std.proofs.lemmas.List.{append_cancel_right}
 use Rattle.td_lex.specs.declared.kinds.Token.{Token}
 use Rattle.td_lex.specs.declared.kinds.Spanned.{Spanned}
 use Rattle.td_lex.specs.declared.kinds.LexFault.{LexFault}
 use Rattle.td_lex.specs.declared.kinds.LexFault.TheVariants.{BadToken, TooWide, NoMemory}
-use Rattle.td_lex.specs.declared.kinds.Stop.{Stop}
-use Rattle.td_lex.specs.declared.kinds.Stop.TheVariants.{NoForm, Wide}
-use Rattle.td_lex.specs.Tokens.{is_blank, BeginsNot, IsToken, Stands, StandsWide, Reads, IsTokens, NoToken, WideFirst, FailsAt, Answers}
+use Rattle.td_lex.specs.declared.kinds.Stop.TheVariants.{NoForm}
+use Rattle.td_lex.specs.Tokens.{is_blank, BeginsNot, Stands, Reads, NoToken, WideFirst, Answers}
 use Rattle.td_lex.specs.Lexing.{Reading, token_of}
 use Rattle.td_lex.proofs.Fronts.{both}
 use Rattle.td_lex.proofs.Again.{stands_again, wide_again, blank_again, some_bytes, some_wide}

@@ -1,5 +1,5 @@
 -- Where tokens stand, and texts cut and joined where tokens end.
-use Rattle.std.proofs.Common.{◌≡◌, ◌≢◌, ℕ, ◌+◌, ◌-◌, ◌<◌, ◌≤◌, Bool, true, false, ◌==◌, List, [], ◌∷◌, ◌++◌, length, take, drop, map, get_or, refl, sym, ap, subst, ◌∙◌, arith, append_assoc, length-append, inl, inr}
+use Rattle.std.proofs.Common.{◌≡◌, ℕ, ◌+◌, ◌-◌, ◌<◌, Bool, true, false, ◌==◌, List, [], ◌∷◌, ◌++◌, length, take, get_or, refl, sym, ap, subst, ◌∙◌, arith, append_assoc, length-append}
 use Rattle.std.specs.Prelude.{slice_range}
 use Rattle.std.specs.List.{list_all}
 use Rattle.std.proofs.Math.Seq.{take-append_seam, drop-append_seam}
@@ -8,8 +8,8 @@ use Rattle.std.proofs.lemmas.List.{append-nil}
 use Rattle.td_lex.specs.declared.kinds.Token.{Token}
 use Rattle.td_lex.specs.declared.kinds.Token.TheVariants.{Word, Num, Dur, Str, Sym, Le, Ge, Ne}
 use Rattle.td_lex.specs.declared.kinds.Spanned.{Spanned}
-use Rattle.td_lex.specs.Tokens.{is_blank, is_word_byte, is_quote, goes_on, BeginsNot, quoted, IsToken, Ends, Stands, Reads, IsTokens}
-use Rattle.td_lex.specs.Laws.{AreSpans, alone, moved_token, moved}
+use Rattle.td_lex.specs.Tokens.{is_blank, is_word_byte, is_quote, goes_on, BeginsNot, IsToken, Ends, Reads, IsTokens}
+use Rattle.td_lex.specs.Laws.{AreSpans, alone, moved}
 use Rattle.td_lex.proofs.Again.{some_bytes}
 use Rattle.td_lex.proofs.Readings.{after_gap}
 

@@ -1,18 +1,16 @@
 -- What is printed is read back.
-use Rattle.std.proofs.Common.{◌≡◌, ℕ, ℤ, pos, negsuc, neg_ℤ, suc, ◌+◌, ◌*◌, ◌/◌, ◌%◌, ◌<◌, ◌≤◌, ◌^◌, ◌+ℤ◌, ◌*ℤ◌, Bool, true, false, ◌==◌, ◌||◌, cond, List, [], ◌∷◌, ◌++◌, length, FitsSigned, refl, sym, ap, subst, ◌∙◌, arith, lit<}
-use lib.Signed.{mag}
+use Rattle.std.proofs.Common.{◌≡◌, ℕ, ℤ, pos, negsuc, suc, ◌+◌, ◌*◌, ◌/◌, ◌%◌, ◌<◌, ◌≤◌, ◌^◌, ◌+ℤ◌, ◌*ℤ◌, Bool, true, false, ◌==◌, ◌||◌, cond, List, [], ◌∷◌, length, FitsSigned, refl, sym, ap, subst, ◌∙◌, arith}
 use Rattle.std.specs.Int.{w128}
-use Rattle.std.specs.Char.{is_ascii_digit, digit_value}
+use Rattle.std.specs.Char.{digit_value}
 use Rattle.std.specs.Fmt.{decimal, signed_decimal}
-use Rattle.std.specs.Str.Parse.{IsNumeral, AllDigits, digits_value, signed_digits_value, without_leading_sign, starts_with_minus}
+use Rattle.std.specs.Str.Parse.{IsNumeral, AllDigits, digits_value, signed_digits_value, without_leading_sign}
 use Rattle.std.proofs.lemmas.Bool.Decides.{nat_tests}
 use Rattle.std.proofs.lemmas.Int.{ints}
 use Rattle.std.proofs.lemmas.Fmt.{decimal_is_IsNumeral_wide}
 use Rattle.jiff_core.specs.Calendar.{IsCivilDate, days_from_civil, days_in_month, is_leap_year}
-use Rattle.td_lex.specs.declared.kinds.Token.{Token}
 use Rattle.td_lex.specs.declared.kinds.Token.TheVariants.{Num}
-use Rattle.td_lex.specs.Tokens.{IsToken, IsTokens, IsNumber}
-use Rattle.td_lex.specs.Times.{Stamp, IsStamp, AreDigits, value, filled, stamp_text, milliseconds, IsTimestamp}
+use Rattle.td_lex.specs.Tokens.{IsToken, IsTokens}
+use Rattle.td_lex.specs.Times.{IsStamp, AreDigits, value, filled, stamp_text, milliseconds, IsTimestamp}
 use Rattle.td_lex.specs.Laws.{alone, two_digits, three_digits, four_digits, Moment, Exists, full, since_1970}
 use Rattle.td_lex.proofs.Again.{digit_test}
 use Rattle.td_lex.proofs.Places.{one_token}

@@ -1,18 +1,16 @@
 -- Reading a text token by token, and what is answered of it.
-use Rattle.std.proofs.Common.{◌≡◌, ◌≢◌, ℕ, ◌+◌, ◌-◌, ◌<◌, ◌≤◌, Bool, true, false, ◌==◌, List, [], ◌∷◌, ◌++◌, length, take, drop, Result, Ok, Err, refl, sym, ap, subst, ◌∙◌, arith, append_assoc, length-append}
+use Rattle.std.proofs.Common.{◌≡◌, ◌≢◌, ℕ, ◌+◌, ◌-◌, ◌<◌, ◌≤◌, true, false, ◌==◌, List, [], ◌∷◌, ◌++◌, length, take, drop, Ok, Err, refl, sym, ap, subst, ◌∙◌, arith, append_assoc, length-append}
 use Rattle.std.specs.List.{prefix_len, list_all}
-use Rattle.std.proofs.lemmas.List.{take-append-drop, append-nil, append_cancel_right}
+use Rattle.std.proofs.lemmas.List.{take-append-drop, append-nil}
 use Rattle.td_lex.specs.declared.kinds.Token.{Token}
 use Rattle.td_lex.specs.declared.kinds.Spanned.{Spanned}
-use Rattle.td_lex.specs.declared.kinds.LexFault.{LexFault}
-use Rattle.td_lex.specs.declared.kinds.LexFault.TheVariants.{BadToken, TooWide}
 use Rattle.td_lex.specs.declared.kinds.Stop.{Stop}
 use Rattle.td_lex.specs.declared.kinds.Stop.TheVariants.{NoForm, Wide, NoMemory}
-use Rattle.td_lex.specs.Tokens.{is_blank, Begins, BeginsNot, IsToken, Stands, StandsWide, Reads, IsTokens, NoToken, WideFirst, FailsAt, Answers}
-use Rattle.td_lex.specs.Lexing.{Reading, Fails, token_of, fault_of}
+use Rattle.td_lex.specs.Tokens.{is_blank, BeginsNot, Stands, Reads, IsTokens, NoToken, WideFirst, FailsAt, Answers}
+use Rattle.td_lex.specs.Lexing.{Fails, token_of, fault_of}
 use Rattle.td_lex.proofs.Fronts.{all_append, front_all, rest_not}
 use Rattle.td_lex.proofs.Tells.{Tells, token_tells}
-use Rattle.td_lex.proofs.Again.{stands_again, wide_again, blank_again, some_bytes, some_wide}
+use Rattle.td_lex.proofs.Again.{stands_again, wide_again, some_bytes}
 
 -- blanks before what is read
 pub after_gap : (at : ℕ) (gap text : List ℕ) (ts : List Spanned) (last : List ℕ) → list_all is_blank gap ≡ true → Reads (at + length gap) text ts last → Reads at (gap ++ text) ts last

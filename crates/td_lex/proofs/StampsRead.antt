@@ -1,21 +1,19 @@
 -- Reading a timestamp from left to right finds what the rule has, and nothing else.
-use Rattle.std.proofs.Common.{◌≡◌, ◌≢◌, ℕ, ℤ, pos, ◌+◌, ◌-◌, ◌*◌, ◌≤◌, ◌<◌, ◌^◌, ◌+ℤ◌, ◌*ℤ◌, Bool, true, false, cond, ◌&&◌, ◌==◌, nat_le, nat_lt, List, [], ◌∷◌, ◌++◌, length, take, drop, Option, Some, None, Result, Ok, Err, refl, sym, ap, subst, ◌∙◌, arith, append_assoc, length-append}
-use Rattle.std.specs.Option.{option_map, option_and_then, ok_or}
+use Rattle.std.proofs.Common.{◌≡◌, ℕ, ℤ, pos, ◌+◌, ◌*◌, ◌≤◌, ◌<◌, ◌^◌, ◌+ℤ◌, ◌*ℤ◌, Bool, true, false, cond, ◌&&◌, ◌==◌, nat_le, nat_lt, List, [], ◌∷◌, ◌++◌, length, take, drop, Option, Some, None, refl, sym, ap, subst, ◌∙◌, arith, append_assoc, length-append}
+use Rattle.std.specs.Option.{option_map, ok_or}
 use Rattle.std.specs.Char.{is_ascii_digit}
 use Rattle.std.specs.List.{list_all}
-use Rattle.std.specs.Str.Parse.{AllDigits, digits_value}
+use Rattle.std.specs.Str.Parse.{AllDigits}
 use Rattle.std.proofs.Math.Seq.{take-append_seam, drop-append_seam}
-use Rattle.std.proofs.lemmas.Bool.Decides.{nat_tests}
 use Rattle.std.proofs.lemmas.List.{take-append-drop, length-take-le}
 use Rattle.std.proofs.lemmas.Int.{ints}
 use Rattle.jiff_core.specs.Calendar.{IsCivilDate, days_in_month, days_from_civil}
-use Rattle.td_lex.specs.declared.kinds.TimeFault.{TimeFault}
-use Rattle.td_lex.specs.declared.kinds.TimeFault.TheVariants.{BadTime, NoMemory}
-use Rattle.td_lex.specs.Times.{Stamp, IsStamp, AreDigits, value, filled, fraction_text, date_text, clock_text, stamp_text, day_milliseconds, milliseconds, IsTimestamp, SaysTime}
+use Rattle.td_lex.specs.declared.kinds.TimeFault.TheVariants.{BadTime}
+use Rattle.td_lex.specs.Times.{Stamp, IsStamp, AreDigits, value, filled, fraction_text, clock_text, stamp_text, milliseconds, IsTimestamp, SaysTime}
 use Rattle.td_lex.specs.Stamps.{◌>>=◌, are_digits, number_of, digits_at, past_byte, is_civil_date, day_number_of, date_of, second_of, clock_of, fraction_of, timestamp_of}
 use Rattle.td_lex.proofs.Fronts.{both, together}
 use Rattle.td_lex.proofs.Again.{digits_test, lt_yes}
-use Rattle.td_lex.proofs.Tells.{equal_bytes, same_byte, less}
+use Rattle.td_lex.proofs.Tells.{equal_bytes, less}
 use Rattle.td_lex.proofs.ShortNumbers.{all_are_digits, short_value}
 use Rattle.td_lex.proofs.DayNumbers.{leb_yes, leb_says, passes, some_day}
 
@@ -39,7 +37,7 @@ digits_found n text p h =
     let m = map_found (number_of (take n text)) _ p f.1 in
     let i = if_found (are_digits (take n text)) _ m.0 m.1 in
     let long : n ≤ length text = leb_says n (length text) f.0 in
-    let all = (both _ (list_all is_ascii_digit (take n text)) (both _ _ i.0).1).1 in
+    let all : list_all is_ascii_digit (take n text) ≡ true = (both (nat_le (length (take n text)) 4) _ (both (nat_le 1 (length (take n text))) _ i.0).1).1 in
     let is : value (take n text) ≡ m.0 = cc in
     let pair : (m.0, drop n text) ≡ p = m.2 in (
       take n text,

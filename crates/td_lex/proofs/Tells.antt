@@ -1,19 +1,17 @@
 -- What reading finds at the front of a text stands there.
-use Rattle.std.proofs.Common.{◌≡◌, ◌≢◌, ℕ, ℤ, suc, ◌+◌, ◌<◌, ◌≤◌, ◌^◌, Bool, true, false, cond, ◌&&◌, ◌||◌, ◌==◌, not, nat_lt, ◌⊎◌, inl, inr, List, [], ◌∷◌, ◌++◌, length, take, drop, map, Option, Some, None, Result, Ok, Err, FitsSigned, refl, sym, ap, subst, ◌∙◌, arith, add-one, add_comm, append_assoc}
+use Rattle.std.proofs.Common.{◌≡◌, ℕ, ℤ, ◌+◌, ◌<◌, ◌≤◌, ◌^◌, true, false, cond, ◌&&◌, ◌||◌, ◌==◌, not, nat_lt, ◌⊎◌, inl, inr, List, [], ◌∷◌, ◌++◌, take, drop, Option, Some, None, Ok, Err, FitsSigned, refl, sym, ap, subst, ◌∙◌, arith, append_assoc}
 use lib.Signed.{mag}
 use Rattle.std.specs.Int.{w128}
 use Rattle.std.specs.Char.{is_ascii_digit, to_ascii_lowercase}
 use Rattle.std.specs.List.{prefix_len, list_all}
-use Rattle.std.specs.Str.{is_utf8, IsUtf8}
-use Rattle.std.specs.Str.Parse.{IsNumeral, digits_value, signed_digits_value, without_leading_sign}
+use Rattle.std.specs.Str.{is_utf8}
+use Rattle.std.specs.Str.Parse.{IsNumeral, digits_value, signed_digits_value}
 use Rattle.std.proofs.lemmas.Bool.Decides.{nat_tests}
 use Rattle.std.proofs.lemmas.List.{take-append-drop}
 use Rattle.std.proofs.lemmas.Str.{IsUtf8-from_is_utf8}
-use Rattle.td_lex.specs.declared.kinds.Token.{Token}
-use Rattle.td_lex.specs.declared.kinds.Token.TheVariants.{Word, Num, Dur, Str, Sym, Le, Ge, Ne}
-use Rattle.td_lex.specs.declared.kinds.Stop.{Stop}
+use Rattle.td_lex.specs.declared.kinds.Token.TheVariants.{Num, Dur, Str, Sym, Le, Ge, Ne}
 use Rattle.td_lex.specs.declared.kinds.Stop.TheVariants.{NoForm, Wide, NoMemory}
-use Rattle.td_lex.specs.Tokens.{is_blank, is_word_start, is_word_byte, is_sign, is_quote, is_text_byte, is_unit, is_symbol, goes_on, Begins, BeginsNot, IsWord, IsNumber, IsDuration, doubled, quoted, IsToken, IsWide, Ends, Stands, StandsWide, WideFirst}
+use Rattle.td_lex.specs.Tokens.{is_word_start, is_word_byte, is_sign, is_quote, is_text_byte, is_unit, is_symbol, goes_on, Begins, BeginsNot, IsNumber, doubled, quoted, Stands, WideFirst}
 use Rattle.td_lex.specs.Lexing.{Reading, ends, word_of, whole_of, count_of, ◌>>=◌, duration_of, unsigned_of, signed_of, and_byte, content_of, text_of, single_of, symbol_of, token_of}
 use Rattle.td_lex.proofs.Fronts.{both, together, take_front, front_all, rest_not}
 use Rattle.td_lex.proofs.Numerals.{front_numeral, front_number, signed_number}

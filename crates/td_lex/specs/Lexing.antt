@@ -1,5 +1,5 @@
 -- Reading the token at the front of a text: the token and what follows it, or why there is none.
-use Rattle.std.specs.Prelude.{◌≡◌, ℕ, zero, suc, ◌+◌, ◌^◌, Bool, true, false, ◌||◌, ◌&&◌, ◌==◌, not, nat_lt, if◌then◌else◌, ℤ, List, [], ◌∷◌, take, drop, map, Option, Some, None, Result, Ok, Err}
+use Rattle.std.specs.Prelude.{◌≡◌, ℕ, ◌+◌, ◌^◌, Bool, true, ◌||◌, ◌&&◌, ◌==◌, not, nat_lt, if◌then◌else◌, List, [], ◌∷◌, take, drop, map, Option, Some, None, Result, Ok, Err}
 use lib.Signed.{mag}
 use Rattle.std.specs.Char.{is_ascii_digit, to_ascii_lowercase}
 use Rattle.std.specs.List.{prefix_len}
@@ -13,7 +13,7 @@ use Rattle.td_lex.specs.declared.kinds.LexFault.TheVariants.{BadToken, TooWide}
 use Rattle.td_lex.specs.declared.kinds.LexFault.TheVariants as fault
 use Rattle.td_lex.specs.declared.kinds.Stop.{Stop}
 use Rattle.td_lex.specs.declared.kinds.Stop.TheVariants.{NoForm, Wide, NoMemory}
-use Rattle.td_lex.specs.Tokens.{is_blank, is_word_start, is_word_byte, is_sign, is_quote, is_text_byte, is_unit, is_symbol}
+use Rattle.td_lex.specs.Tokens.{is_word_start, is_word_byte, is_sign, is_quote, is_text_byte, is_unit, is_symbol}
 
 -- a token and what follows it
 abbrev pub Reading : Type 0

@@ -1,4 +1,4 @@
-use Rattle.std.proofs.Common.{◌≡◌, ◌≤◌, ◌-◌, ℕ, List, ◌++◌, length}
+use Rattle.std.proofs.Common.{◌≤◌, ◌-◌, ℕ, List, ◌++◌, length}
 use Rattle.td_lex.specs.declared.kinds.Spanned.{Spanned}
 use Rattle.td_lex.specs.Tokens.{Reads, BeginsNot, is_blank}
 use Rattle.td_lex.proofs.lexer.tokens.Given as goal

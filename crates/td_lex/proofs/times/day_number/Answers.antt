@@ -1,4 +1,4 @@
-use Rattle.std.proofs.Common.{◌≡◌, ◌∙◌, ap, arith, refl, ℤ, pos, Some, Option, FitsSigned, to_z, of_z, w8, w32, w64}
+use Rattle.std.proofs.Common.{◌≡◌, ◌∙◌, ap, arith, refl, ℤ, pos, Some, FitsSigned, to_z, w8, w32, w64}
 use Rattle.std.specs.Int.{w16}
 use Rattle.std.proofs.lemmas.Int.{to_z-of_z, ints}
 use Rattle.jiff_core.specs.Calendar.{IsDate}
