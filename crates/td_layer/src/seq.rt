@@ -175,3 +175,22 @@ impl<T: Copied + Drop> Seq<T> {
         })
     }
 }
+
+impl<T: Copied + Drop> Copied for Seq<T> {
+    fn copy(&self) -> Result<Seq<T>, NoMem> {
+        let copied = Seq::copy(self)?;
+        Ok(copied)
+    }
+}
+
+impl<T: Copied + Drop> Copied for Option<T> {
+    fn copy(&self) -> Result<Option<T>, NoMem> {
+        match self {
+            None => Ok(None),
+            Some(item) => {
+                let item = item.copy()?;
+                Ok(Some(item))
+            }
+        }
+    }
+}

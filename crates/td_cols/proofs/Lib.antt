@@ -1,0 +1,4 @@
+pub mod KindWidths
+mod LowBytes
+mod TwosComplement
+pub mod OneSpelling

@@ -1,0 +1,47 @@
+-- An entry gives the state its version and its moment, whatever it does.
+use Rattle.std.proofs.Common.{◌≡◌, ℕ, ◌+◌, List, [], ◌∷◌, Option, Some, None, refl, ◌∙◌}
+use Rattle.td_model.specs.declared.history.Put.{Put}
+use Rattle.td_model.specs.declared.history.What.{What}
+use Rattle.td_model.specs.declared.history.What.TheVariants as what
+use Rattle.td_model.specs.declared.history.Entry.{Entry}
+use Rattle.td_model.specs.Catalog.{table_at}
+use Rattle.td_model.specs.State.{State, row_put, latest_raised, parent_of, put_one, put_all, effect, step}
+
+-- the version and the moment of one state are those of another
+pub record SameTimes (s t : State) : Type 0 where
+  pub version : s.version ≡ t.version
+  pub moment : s.moment ≡ t.moment
+
+same : (s : State) → SameTimes s s
+same s = record { version = refl; moment = refl }
+
+then : (r s t : State) → SameTimes r s → SameTimes s t → SameTimes r t
+then r s t h k = record { version = h.version ∙ k.version; moment = h.moment ∙ k.moment }
+
+one : (p : Put) (s : State) → SameTimes (put_one p s) s
+one p s = elim (parent_of (table_at p.key.table s.catalog)) as (λ o. SameTimes (latest_raised o p.key (row_put p s)) s) [
+  | None ↦ record { version = refl; moment = refl }
+  | Some n ↦ record { version = refl; moment = refl }
+]
+
+all : (ps : List Put) (s : State) → SameTimes (put_all ps s) s
+all [] s = same s
+all (p ∷ ps) s = then (put_all ps (put_one p s)) (put_one p s) s (all ps (put_one p s)) (one p s)
+
+pub effect_times : (w : What) (s : State) → SameTimes (effect w s) s
+effect_times (what.MakeStable name schema) s = record { version = refl; moment = refl }
+effect_times (what.MakeTable name columns) s = record { version = refl; moment = refl }
+effect_times (what.MakeSub name stable tags) s = record { version = refl; moment = refl }
+effect_times (what.Put puts) s = all puts s
+effect_times (what.Cut table lo hi) s = record { version = refl; moment = refl }
+effect_times (what.Edge edge) s = record { version = refl; moment = refl }
+effect_times (what.MakeStream def) s = record { version = refl; moment = refl }
+effect_times (what.DropStream n) s = record { version = refl; moment = refl }
+effect_times (what.Step stream upto moment) s = same s
+effect_times what.Halt s = record { version = refl; moment = refl }
+
+pub step_version : (s : State) (e : Entry) → (step s e).version ≡ s.version + 1
+step_version s e = (effect_times e.what (record s { version = s.version + 1; moment = e.moment })).version
+
+pub step_moment : (s : State) (e : Entry) → (step s e).moment ≡ e.moment
+step_moment s e = (effect_times e.what (record s { version = s.version + 1; moment = e.moment })).moment

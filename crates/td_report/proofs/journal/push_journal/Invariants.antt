@@ -1,0 +1,8 @@
+use Rattle.std.proofs.Common.{◌≡◌, ◌++◌, drop}
+use Rattle.std.specs.List.{flat_map}
+use Rattle.td_model.specs.Text.{journal_line}
+use Rattle.td_report.proofs.journal.push_journal.Given as goal
+
+-- what was written and what is left to write are all
+abbrev pub invariant-loop-line : goal.invariant-loop-line
+invariant-loop-line l = l.out.items ++ flat_map journal_line (drop l.line-index l.lines) ≡ l.fn.out.items ++ flat_map journal_line l.lines

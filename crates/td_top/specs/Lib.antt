@@ -1,0 +1,5 @@
+pub mod Fault
+pub mod Parse
+pub mod Stream
+pub mod Turn
+pub mod Status

@@ -1,0 +1,21 @@
+//! The top call: reads a script, plays it on a state, and writes the report.
+//!
+//! [`vnode`] takes the program's words and [`play`] the command of that name. At `Done` the input was read to its end and
+//! is a script, and the bytes written are the text of exactly one report, which tells the script's run in the order of its
+//! lines: one history of entries, each the acceptance of a statement in the state before it, and each reply what a state of
+//! that history gives. Each other status has its cause, and over a source that tells its bytes they determine the status.
+//!
+//! `parse` reads scripts, `state` keeps tables and rows and judges a statement, `stream` reads a whole source and writes a
+//! whole text, `top` plays. The crate stands on `td_model` for the definitions, `td_report` for the text of a report, and
+//! `td_outside` for the devices.
+#![tactic(auto)]
+
+mod parse;
+mod state;
+mod stream;
+mod top;
+
+pub use top::{Status, play, play_script, vnode};
+
+#[cfg(test)]
+mod tests;

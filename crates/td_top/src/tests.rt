@@ -1,0 +1,177 @@
+//! Whole scripts with their reports, over devices in memory.
+use crate::top::{Status, play, vnode};
+use std::alloc::Global;
+use std::test::Fail;
+use td_layer::{NoMem, Seq};
+use td_outside::{FreeGate, MemPlace, MemSink, MemSource, MemStore, Ticks};
+
+const MAKE: &str = "1: CREATE TABLE t (ts TIMESTAMP, v INT)\n";
+const ALL: &str = "1: SELECT * FROM t\n";
+
+/// How the devices of a run are: the bytes of a call, and the calls that fail.
+#[derive(Clone, Copy)]
+struct Devices {
+    most_in: usize,
+    fails_in: u64,
+    most_out: usize,
+    fails_out: u64,
+}
+
+const STEADY: Devices = Devices {
+    most_in: 7,
+    fails_in: 0,
+    most_out: 5,
+    fails_out: 0,
+};
+
+fn calls(alloc: Global, call: u64) -> Result<Seq<u64>, NoMem> {
+    Ok(Seq::from_vec(alloc, vec![in alloc; call]?))
+}
+
+fn played(
+    alloc: Global,
+    devices: &Devices,
+    script: &[u8],
+) -> Result<(Status, Vec<u8>), NoMem> {
+    let bytes = Seq::of_bytes(alloc, script)?;
+    let fails_in = calls(alloc, devices.fails_in)?;
+    let mut input = MemSource::new(bytes, devices.most_in.max(1), fails_in);
+    let fails_out = calls(alloc, devices.fails_out)?;
+    let mut out = MemSink::new(alloc, 131072, devices.most_out.max(1), fails_out)?;
+    let mut place = MemPlace::new(MemStore);
+    let clock = Ticks::new(calls(alloc, 2000000000000)?);
+    let status = play(alloc, b"d", &mut input, &mut out, &mut place, clock);
+    Ok((status, Vec::from_slice(alloc, out.bytes())?))
+}
+
+#[test]
+fn each_script_has_its_status_and_report(rt: HostRuntime) -> Result<(), Fail> {
+    let alloc = rt.alloc();
+    let six = "1: SELECT * FROM t\n1: CREATE TABLE t (ts TIMESTAMP, v INT)\n1: INSERT INTO t VALUES (5, 2147483648)\n1: INSERT INTO t VALUES (5, 7)\n1: CREATE TABLE t (ts TIMESTAMP, v INT)\n1: SELECT * FROM t\n";
+    let told = "base 0\n1.1 refused 0 UnknownTable\n1.2 accepted 1\n1.3 refused 1 OutOfRange v\n1.4 accepted 2 rows 1\n1.5 refused 2 NameTaken\n1.6 answer 2 rows 1\nts,v\n5,7\njournal 2\n1 1.2 2000000000000\n2 1.4 2000000000000\n";
+    let updated = "1: CREATE TABLE t (ts TIMESTAMP, v INT)\n1: INSERT INTO t VALUES (9, 1)\n1: INSERT INTO t VALUES (3, -4)\n1: INSERT INTO t VALUES (9, -2147483648)\n1: INSERT INTO t VALUES (-1, 0)\n1: INSERT INTO t VALUES (253402300799999, 2147483647)\n1: INSERT INTO t VALUES (253402300800000, 0)\n1: SELECT * FROM t\n";
+    let rows = "base 0\n1.1 accepted 1\n1.2 accepted 2 rows 1\n1.3 accepted 3 rows 1\n1.4 accepted 4 rows 1\n1.5 refused 4 OutOfRange ts\n1.6 accepted 5 rows 1\n1.7 refused 5 OutOfRange ts\n1.8 answer 5 rows 3\nts,v\n3,-4\n9,-2147483648\n253402300799999,2147483647\njournal 5\n1 1.1 2000000000000\n2 1.2 2000000000000\n3 1.3 2000000000000\n4 1.4 2000000000000\n5 1.6 2000000000000\n";
+    let table: [(&str, Status, &str); 9] = [
+        ("", Status::Done, "base 0\njournal 0\n"),
+        (six, Status::Done, told),
+        (updated, Status::Done, rows),
+        ("1: SELECT * FROM t", Status::NotBuilt(1), ""),
+        ("1: SELECT * FROM t\n\n", Status::NotBuilt(2), ""),
+        ("2: SELECT * FROM t\n", Status::NotBuilt(1), ""),
+        ("1: INSERT INTO t VALUES (1,2)\n", Status::NotBuilt(1), ""),
+        (
+            "1: INSERT INTO t VALUES (1, 1234567890123456789)\n",
+            Status::NotBuilt(1),
+            "",
+        ),
+        ("1: INSERT INTO t VALUES (-, 2)\n", Status::NotBuilt(1), ""),
+    ];
+    for (script, status, report) in table {
+        let (found, text) = played(alloc, &STEADY, script.as_bytes())?;
+        assert_eq!(rt; found, status);
+        assert_eq!(rt; text.as_slice(), report.as_bytes());
+    }
+    let (found, text) = played(alloc, &STEADY, b"1: SELECT * FROM t\n\xff\n")?;
+    assert_eq!(rt; found, Status::NotBuilt(2));
+    assert_eq!(rt; text.len(), 0);
+    Ok(())
+}
+
+#[test]
+fn a_table_without_rows_answers_its_header(rt: HostRuntime) -> Result<(), Fail> {
+    let alloc = rt.alloc();
+    let script = format!(in alloc; "{}{}", MAKE, ALL)?;
+    let (found, text) = played(alloc, &STEADY, script.as_bytes())?;
+    assert_eq!(rt; found, Status::Done);
+    let report = b"base 0\n1.1 accepted 1\n1.2 answer 1 rows 0\nts,v\njournal 1\n1 1.1 2000000000000\n".as_slice();
+    assert_eq!(rt; text.as_slice(), report);
+    Ok(())
+}
+
+#[test]
+fn a_failing_device_gives_its_fault(rt: HostRuntime) -> Result<(), Fail> {
+    let alloc = rt.alloc();
+    let script = format!(in alloc; "{}{}", MAKE, ALL)?;
+    let reading = Devices {
+        fails_in: 2,
+        ..STEADY
+    };
+    let (found, text) = played(alloc, &reading, script.as_bytes())?;
+    assert_eq!(rt; found, Status::InputFault);
+    assert_eq!(rt; text.len(), 0);
+    let writing = Devices {
+        most_out: 4,
+        fails_out: 2,
+        ..STEADY
+    };
+    let (found, text) = played(alloc, &writing, script.as_bytes())?;
+    assert_eq!(rt; found, Status::OutputFault);
+    assert_eq!(rt; text.as_slice(), b"base".as_slice());
+    Ok(())
+}
+
+#[test]
+fn two_thousand_lines_have_their_rows(rt: HostRuntime) -> Result<(), Fail> {
+    let alloc = rt.alloc();
+    let mut script = String::new(alloc);
+    let mut replies = String::new(alloc);
+    let mut rows = String::new(alloc);
+    let mut journal = String::new(alloc);
+    script.push_str(MAKE)?;
+    replies.push_str("base 0\n1.1 accepted 1\n")?;
+    journal.push_str("1 1.1 2000000000000\n")?;
+    for i in 2u64..2000 {
+        script.push_str(format!(in alloc; "1: INSERT INTO t VALUES ({}, {})\n", 4000 - i, i)?.as_str())?;
+        replies.push_str(format!(in alloc; "1.{i} accepted {i} rows 1\n")?.as_str())?;
+        rows.push_str(format!(in alloc; "{},{}\n", 1999 + i, 2001 - i)?.as_str())?;
+        journal.push_str(format!(in alloc; "{i} 1.{i} 2000000000000\n")?.as_str())?;
+    }
+    script.push_str(ALL)?;
+    let report = format!(in alloc; "{}1.2000 answer 1999 rows 1998\nts,v\n{}journal 1999\n{}", replies, rows, journal)?;
+    let long = Devices {
+        most_in: 1000,
+        most_out: 1000,
+        ..STEADY
+    };
+    let (found, text) = played(alloc, &long, script.as_bytes())?;
+    assert_eq!(rt; found, Status::Done);
+    assert_eq!(rt; text.as_slice(), report.as_bytes());
+    Ok(())
+}
+
+#[test]
+fn only_play_and_one_directory_are_words(rt: HostRuntime) -> Result<(), Fail> {
+    let alloc = rt.alloc();
+    let table: [(&str, &str, usize, Status); 7] = [
+        ("play", "d", 2, Status::Done),
+        ("play", "d", 1, Status::Usage),
+        ("play", "", 2, Status::Usage),
+        ("play", "-d", 2, Status::Usage),
+        ("run", "d", 2, Status::Usage),
+        ("Play", "d", 2, Status::Usage),
+        ("play", "d", 0, Status::Usage),
+    ];
+    for (word, dir, count, status) in table {
+        let mut words = Vec::new(alloc);
+        for text in [word, dir].iter().take(count) {
+            words.push(String::from_str(alloc, text)?)?;
+        }
+        let mut input = MemSource::new(Seq::new(alloc), 1, Seq::new(alloc));
+        let mut out = MemSink::new(alloc, 64, 64, Seq::new(alloc))?;
+        let mut place = MemPlace::new(MemStore);
+        let clock = Ticks::new(calls(alloc, 0)?);
+        let found = vnode(
+            &rt,
+            alloc,
+            words.as_slice(),
+            &mut input,
+            &mut out,
+            &mut place,
+            clock,
+            &FreeGate,
+        );
+        assert_eq!(rt; found, status);
+        assert_eq!(rt; out.bytes().is_empty(), status == Status::Usage);
+    }
+    Ok(())
+}

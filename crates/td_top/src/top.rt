@@ -1,0 +1,207 @@
+//! The top call: reads a script, plays it, writes the report.
+ghost use Rattle.std.specs.Prelude.{◌≡◌, ◌<◌, ◌↔◌, ◌^◌, ◌++◌, ◌∷◌, [], true, false, map, None, IfOk, IfErr, OnOk, IsSome, string_bytes, length};
+ghost use Rattle.td_model.specs.State.{empty_state};
+ghost use Rattle.td_model.specs.Told.{ToldInOrder};
+ghost use Rattle.td_top.specs.Turn.{reply_line_at, as_list};
+ghost use Rattle.td_top.specs.Stream.{TookFew};
+ghost use Rattle.td_top.specs.Status.{Tells, is_dir, dir_of, outside, Ended, Says, Completes, writes};
+
+use crate::parse::{ScriptFault, script_of};
+use crate::state::Tables;
+use crate::stream::{ReadFault, read_all, write_all};
+use std::alloc::Global;
+use std::sync::Wait;
+use std::thread::Threads;
+use td_layer::{NoMem, Seq};
+use td_model::{JournalLine, Reply, Report, Form};
+use td_outside::{Clock, Failed, Gate, Place, Sink, Source};
+use td_report::report;
+
+/// How the program ends.
+#[derive(Clone, Copy, Debug, PartialEq, Eq)]
+pub enum Status {
+    /// The report was written.
+    Done,
+    /// There was no memory. Nothing was written.
+    NoMemory,
+    /// The words aren't a command. Nothing was read or written.
+    Usage,
+    /// More than 67108864 bytes stand before the input's end. Nothing was written.
+    TooLarge,
+    /// The line, from 1, is the first that is of no form that is built. Nothing was written.
+    NotBuilt(u64),
+    /// A read failed. Nothing was written.
+    InputFault,
+    /// A write failed. What was written is a front of the report.
+    OutputFault,
+}
+
+fn push_reply(
+    replies: &mut Seq<(u32, u32, Reply)>,
+    ordinal: u32,
+    reply: Reply,
+) -> Result<(), NoMem>
+    ensures { OnOk result (replies.new ≡ replies.old ++ reply_line_at ordinal reply ∷ []) }
+{
+    if replies.push((1, ordinal, reply)).is_err() {
+        return Err(NoMem);
+    }
+    Ok(())
+}
+
+fn push_line(journal: &mut Seq<JournalLine>, line: Option<JournalLine>) -> Result<(), NoMem>
+    ensures { OnOk result (journal.new ≡ journal.old ++ as_list line) }
+{
+    if let Some(line) = line {
+        if journal.push(line).is_err() {
+            return Err(NoMem);
+        }
+    }
+    Ok(())
+}
+
+/// Plays the statements of a script in their order, from no table on. The moments are the clock's readings, and don't
+/// fall where these do. The answer is the report, or want of memory for it.
+pub fn play_script<C: Clock>(alloc: Global, script: &[Form], clock: &mut C) -> Result<Report, NoMem>
+    requires { length script.now < 2 ^ 32 }
+    ensures { IfOk result (λ r. ToldInOrder empty_state (C.readings clock.old) script.now r) }
+{
+    let mut tables = Tables::new(alloc);
+    let mut replies = Seq::new(alloc);
+    let mut journal = Seq::new(alloc);
+    let mut floor = 0;
+    for (i, form) in script.iter().enumerate() {
+        let ordinal = i as u32 + 1;
+        let moment = clock.now().max(floor);
+        floor = moment;
+        let turn = tables.turn(ordinal, moment, form);
+        push_reply(&mut replies, ordinal, turn.reply)?;
+        push_line(&mut journal, turn.line)?;
+    }
+    Ok(Report {
+        base: 0,
+        replies,
+        streams: Seq::new(alloc),
+        journal,
+    })
+}
+
+// The text of the report of a whole run.
+fn report_of<I: Source, C: Clock>(
+    alloc: Global,
+    input: &mut I,
+    clock: &mut C,
+) -> Result<Seq<u8>, Status>
+    ensures told { IfOk result (λ text. Tells (C.readings clock.old) (I.left input.old) (I.left input.new) text) }
+    ensures calm { OnOk result (I.count input.new ≡ I.count input.old) }
+    ensures ended { IfErr result (λ status. Ended (I.left input.old) (I.left input.new) (I.count input.old) (I.count input.new) status) }
+    ensures few { TookFew (I.left input.old) (I.left input.new) }
+{
+    let bytes = match read_all(alloc, input) {
+        Ok(bytes) => bytes,
+        Err(ReadFault::NoMemory) => return Err(Status::NoMemory),
+        Err(ReadFault::TooLarge) => return Err(Status::TooLarge),
+        Err(ReadFault::Input) => return Err(Status::InputFault),
+    };
+    let script = match script_of(alloc, bytes.as_slice()) {
+        Ok(script) => script,
+        Err(ScriptFault::NoMemory) => return Err(Status::NoMemory),
+        Err(ScriptFault::NotBuilt(line)) => return Err(Status::NotBuilt(line)),
+    };
+    let Ok(told) = play_script(alloc, script.as_slice(), clock) else {
+        return Err(Status::NoMemory);
+    };
+    match report(alloc, &told) {
+        Ok(text) => Ok(text),
+        Err(NoMem) => Err(Status::NoMemory),
+    }
+}
+
+// Plays a script from the input to the report.
+fn run<I: Source, O: Sink, C: Clock>(
+    alloc: Global,
+    input: &mut I,
+    out: &mut O,
+    clock: &mut C,
+) -> Status
+    ensures says { Says (C.readings clock.old) (outside (I.left input.old) (I.count input.old) (O.written out.old) (O.count out.old)) (outside (I.left input.new) (I.count input.new) (O.written out.new) (O.count out.new)) result }
+    ensures few { TookFew (I.left input.old) (I.left input.new) }
+    ensures sink { writes result ≡ false → out.new ≡ out.old }
+{
+    match report_of(alloc, input, clock) {
+        Err(status) => status,
+        Ok(text) => match write_all(out, text.as_slice()) {
+            Ok(()) => Status::Done,
+            Err(Failed) => Status::OutputFault,
+        },
+    }
+}
+
+// Whether a word can name a directory.
+fn is_dir(dir: &[u8]) -> bool
+    ensures { result ≡ is_dir dir.now }
+{
+    match dir {
+        [] => false,
+        [first, ..] => *first != b'-',
+    }
+}
+
+/// Plays the script of the input from no table on, and writes the report. The directory isn't used so far.
+///
+/// At `Done` the input was read to its end and is a script, and the bytes written are the text of one report, which tells
+/// the script's run in the order of its lines; at `OutputFault` a front of that text was written, and else nothing. Each
+/// other status comes as `Status` says, in its order. At most 67108865 bytes are read. The place stays as it was.
+pub fn play<I: Source, O: Sink, P: Place, C: Clock>(
+    alloc: Global,
+    dir: &[u8],
+    input: &mut I,
+    out: &mut O,
+    _place: &mut P,
+    mut clock: C,
+) -> Status
+    ensures usage { (result ≡ Status.Usage) ↔ (is_dir dir.now ≡ false) }
+    ensures says { is_dir dir.now ≡ true → Says (C.readings clock) (outside (I.left input.old) (I.count input.old) (O.written out.old) (O.count out.old)) (outside (I.left input.new) (I.count input.new) (O.written out.new) (O.count out.new)) result }
+    ensures complete { is_dir dir.now ≡ true → Completes (outside (I.left input.old) (I.count input.old) (O.written out.old) (O.count out.old)) (outside (I.left input.new) (I.count input.new) (O.written out.new) (O.count out.new)) result }
+    ensures few { TookFew (I.left input.old) (I.left input.new) }
+    ensures unread { result ≡ Status.Usage → input.new ≡ input.old }
+    ensures sink { writes result ≡ false → out.new ≡ out.old }
+    ensures place { _place.new ≡ _place.old }
+{
+    if is_dir(dir) {
+        run(alloc, input, out, &mut clock)
+    } else {
+        Status::Usage
+    }
+}
+
+/// The program: `play DIR` and nothing else, where DIR isn't empty and doesn't begin with `-`. It says what `play` says.
+pub fn vnode<R: Threads + Wait + Sync, I: Source, O: Sink, P: Place, C: Clock, G: Gate>(
+    _rt: &R,
+    alloc: Global,
+    words: &[String],
+    input: &mut I,
+    out: &mut O,
+    place: &mut P,
+    clock: C,
+    _gate: &G,
+) -> Status
+    ensures usage { (result ≡ Status.Usage) ↔ (dir_of (map string_bytes words.now) ≡ None) }
+    ensures says { IsSome (dir_of (map string_bytes words.now)) → Says (C.readings clock) (outside (I.left input.old) (I.count input.old) (O.written out.old) (O.count out.old)) (outside (I.left input.new) (I.count input.new) (O.written out.new) (O.count out.new)) result }
+    ensures complete { IsSome (dir_of (map string_bytes words.now)) → Completes (outside (I.left input.old) (I.count input.old) (O.written out.old) (O.count out.old)) (outside (I.left input.new) (I.count input.new) (O.written out.new) (O.count out.new)) result }
+    ensures few { TookFew (I.left input.old) (I.left input.new) }
+    ensures unread { result ≡ Status.Usage → input.new ≡ input.old }
+    ensures sink { writes result ≡ false → out.new ≡ out.old }
+    ensures place { place.new ≡ place.old }
+{
+    match words {
+        [word, dir] => {
+            if word.as_str() == "play" {
+                play(alloc, dir.as_bytes(), input, out, place, clock)
+            } else {
+                Status::Usage
+            }
+        }
+        _ => Status::Usage,
+    }
+}
