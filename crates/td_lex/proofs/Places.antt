@@ -86,6 +86,22 @@ cut_at_a_token text rest ts us t h =
     let size : t.end ≡ length front = omega (arith, place) in
     subst (λ x. IsTokens x (ts ++ t ∷ [])) (sym (ap (λ x. take t.end x) parts ∙ ap (λ n. take n (front ++ behind)) size ∙ take-append_seam front behind)) reads
 
+-- what stands before a place that reading comes to
+front_from : (ts : List Spanned) (at : ℕ) (text rest : List ℕ) → Reads at text ts rest → (front : List ℕ) × (text ≡ front ++ rest) × Reads at front ts []
+front_from [] at text rest (gap, all, is) = (gap, is, (gap, all, sym (append-nil gap)))
+front_from (t ∷ ts) at text rest (gap, word, after, all, is, stands, from, to, more) =
+    let (front, parts, reads) = front_from ts t.end after rest more in (
+      gap ++ (word ++ front),
+      is ∙ ap (λ x. gap ++ (word ++ x)) parts ∙ ap (λ x. gap ++ x) (sym (append_assoc word front rest)) ∙ sym (append_assoc gap (word ++ front) rest),
+      (gap, word, front, all, refl, (refl, stands.1, ends_in_front t.token word front rest (subst (Ends t.token word) parts stands.2)), from, to, reads),
+    )
+
+pub cut_before_the_rest : (text rest : List ℕ) (ts : List Spanned) (at : ℕ) → Reads 0 text ts rest → at + length rest ≡ length text → IsTokens (take at text) ts
+cut_before_the_rest text rest ts at h place =
+    let (front, parts, reads) = front_from ts 0 text rest h in
+    let size : at ≡ length front = omega (arith, place, ap length parts, length-append front rest) in
+    subst (λ x. IsTokens x ts) (sym (ap (λ x. take at x) parts ∙ ap (λ n. take n (front ++ rest)) size ∙ take-append_seam front rest)) reads
+
 -- a blank ends each token
 blank_is_no_byte : (b : ℕ) → is_blank b ≡ true → is_word_byte b ≡ false
 blank_is_no_byte b h = grind (arith, nat_tests)

@@ -26,6 +26,12 @@ pub fn cut_at_a_token()
     ensures { (text rest : List ℕ) (ts us : List Spanned) (t : Spanned) → Reads 0 text (ts ++ t ∷ us) rest → IsTokens (take t.end text) (ts ++ t ∷ []) }
 {}
 
+/// What stands before a place that reading comes to is the tokens up to there. So a text that is cut where it first fails
+/// is the tokens before the failure.
+pub fn cut_before_the_rest()
+    ensures { (text rest : List ℕ) (ts : List Spanned) (at : ℕ) → Reads 0 text ts rest → at + length rest ≡ length text → IsTokens (take at text) ts }
+{}
+
 /// A text of tokens, a blank and a text of tokens are the tokens of both.
 pub fn joined_by_a_blank()
     ensures { (front text : List ℕ) (blank : ℕ) (ts us : List Spanned) → is_blank blank ≡ true → IsTokens front ts → IsTokens text us → IsTokens (front ++ blank ∷ text) (ts ++ moved (length front + 1) us) }

@@ -25,8 +25,8 @@ mod times;
 pub use decimals::decimal;
 pub use kinds::{LexFault, Spanned, TimeFault, Token};
 pub use laws::{
-    cut_at_a_token, joined_by_a_blank, one_answer, one_time, one_token, printed_number,
-    printed_time,
+    cut_at_a_token, cut_before_the_rest, joined_by_a_blank, one_answer, one_time, one_token,
+    printed_number, printed_time,
 };
 pub use lexer::tokens;
 pub use times::timestamp;
