@@ -149,6 +149,15 @@ impl Seq<u8> {
         let items = Vec::from_slice(alloc, bytes)?;
         Ok(Seq::from_vec(alloc, items))
     }
+
+    /// Adds bytes at the end. Where there is no memory the list stays as it was.
+    pub fn extend(&mut self, bytes: &[u8]) -> Result<(), NoMem>
+        ensures ok { OnOk result (self.new ≡ self.old ++ bytes.now) }
+        ensures err { OnErr result (self.new ≡ self.old) }
+    {
+        self.items.extend_from_slice(bytes)?;
+        Ok(())
+    }
 }
 
 impl<T: Copied + Drop> Seq<T> {

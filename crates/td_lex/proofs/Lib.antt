@@ -1,0 +1,11 @@
+pub mod Fronts
+pub mod Numerals
+pub mod Tells
+pub mod Again
+pub mod Readings
+pub mod ShortNumbers
+pub mod DayNumbers
+pub mod StampsRead
+pub mod OneAnswer
+pub mod Places
+pub mod Printed
