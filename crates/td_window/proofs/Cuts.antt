@@ -1,9 +1,9 @@
 -- How a list is cut where its first group is known, and how lists of places divide.
-use Rattle.std.proofs.Common.{◌≡◌, ◌≢◌, ℕ, zero, suc, ◌+◌, ◌-◌, ◌<◌, ◌≤◌, Bool, true, false, cond, List, [], ◌∷◌, ◌++◌, map, filter, refl, sym, ap, ◌∙◌, subst, arith, add-one, append_assoc, ◌^◌, ℤ, pos, to_z, w64}
-use Rattle.std.proofs.lemmas.Int.{to_z_pos}
+use Rattle.std.proofs.Common.{◌≡◌, ℕ, zero, suc, ◌+◌, ◌-◌, ◌<◌, ◌≤◌, Bool, true, false, cond, List, [], ◌∷◌, ◌++◌, map, filter, refl, sym, ap, ◌∙◌, subst, arith, ◌^◌, ℤ, pos, ◌-ℤ◌, to_z, of_z, w64}
+use Rattle.std.proofs.lemmas.Int.{ints, to_z_pos}
 use Rattle.td_window.specs.declared.span.Span.{Span}
-use Rattle.std.specs.List.{range_with_len, AllByRecursion}
-use Rattle.td_layer.specs.Windows.{Window, cut, led_by, last_of}
+use Rattle.std.specs.List.{range_with_len}
+use Rattle.td_layer.specs.Windows.{cut, led_by, last_of}
 
 -- ---- lists of places
 pub range-append : (a m n : ℕ) → range_with_len a (m + n) ≡ range_with_len a m ++ range_with_len (a + m) n
@@ -100,3 +100,12 @@ cast_is n h = to_z_pos w64 n h
 
 pub cast_span : (a b first rows : ℕ) → a < 2 ^ 63 → b < 2 ^ 63 → spanning (to_z w64 a) (to_z w64 b) first rows ≡ spanning (pos a) (pos b) first rows
 cast_span a b first rows p q = rw (cast_is a p, cast_is b q)
+
+-- a start that the code takes from an end and a length
+pub cast_span_from : (e len first rows : ℕ) → e < 2 ^ 62 → len < 2 ^ 62 → spanning (to_z w64 (of_z w64 (to_z w64 e -ℤ to_z w64 len))) (to_z w64 e) first rows ≡ spanning (pos e -ℤ pos len) (pos e) first rows
+cast_span_from e len first rows p q =
+    let a : to_z w64 (of_z w64 (to_z w64 e -ℤ to_z w64 len)) ≡ pos e -ℤ pos len = omega (arith, ints) in
+    let b : to_z w64 e ≡ pos e = cast_is e (omega arith) in
+    let f : ℤ → Span = λ s. spanning s (to_z w64 e) first rows in
+    let g : ℤ → Span = λ t. spanning (pos e -ℤ pos len) t first rows in
+    ap f a ∙ ap g b

@@ -1,3 +1,4 @@
 pub mod Cuts
+pub mod OneInterval
 pub mod OneSession
 pub mod OneState

@@ -1,11 +1,11 @@
 -- Why one more session is cut rightly.
-use Rattle.std.proofs.Common.{◌≡◌, ◌≢◌, ℕ, zero, suc, ◌+◌, ◌-◌, ◌<◌, ◌≤◌, pos, Bool, true, false, List, [], ◌∷◌, ◌++◌, map, length, refl, sym, ap, ◌∙◌, subst, arith, ltb, slice_index}
+use Rattle.std.proofs.Common.{◌≡◌, ℕ, zero, suc, ◌+◌, ◌-◌, ◌<◌, ◌≤◌, pos, Bool, true, List, ◌∷◌, ◌++◌, map, length, sym, ap, ◌∙◌, arith, ltb}
 use Rattle.std.proofs.lemmas.Bool.Decides.{nat_tests}
 use Rattle.std.specs.List.{range_with_len}
 use Rattle.td_layer.specs.Windows.{Window, cut, last_of, window_of_group, session_windows}
-use Rattle.td_window.specs.Spans.{time_at, window_of, places}
+use Rattle.td_window.specs.Spans.{time_at, window_of}
 use Rattle.td_window.specs.declared.span.Span.{Span}
-use Rattle.td_window.proofs.Cuts.{IsRun, Ends, cut_run, range_at, range_first, Ends-range, last_place, spanning}
+use Rattle.td_window.proofs.Cuts.{IsRun, cut_run, range_at, range_first, Ends-range, last_place, spanning}
 
 module _ (ts : List ℕ) (tol : ℕ) where
   abbrev apart : ℕ → ℕ → Bool

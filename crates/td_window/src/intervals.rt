@@ -11,7 +11,13 @@ use td_layer::{NoMem, Seq};
 /// The interval windows of rows at timestamps that don't fall. Windows start at `offset + j * slide` for every whole j,
 /// also below 0, and take the rows from there on and before the end, `len` later; those that hold a row are given, by
 /// their starts. All three durations are in milliseconds.
-pub fn interval(alloc: Global, ts: &[u64], len: u64, offset: u64, slide: u64) -> Result<Seq<Span>, NoMem>
+pub fn interval(
+    alloc: Global,
+    ts: &[u64],
+    len: u64,
+    offset: u64,
+    slide: u64,
+) -> Result<Seq<Span>, NoMem>
     requires in_order { IsNonDecreasing ts.now }
     requires in_range { All (λ t. t ≤ LATEST) ts.now }
     requires length { len ≤ LONGEST }

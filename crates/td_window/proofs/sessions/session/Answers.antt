@@ -1,8 +1,8 @@
-use Rattle.std.proofs.Common.{◌≡◌, ◌-◌, ◌∷◌, length, arith, ap}
+use Rattle.std.proofs.Common.{◌-◌, length, arith, ap}
 use Rattle.std.proofs.lemmas.List.Elements.{All-push}
 use Rattle.td_window.specs.Spans.{time_at, window_of, IsInside}
 use Rattle.td_window.proofs.Cuts.{one_more_window, cast_span}
-use Rattle.td_window.proofs.OneSession.{sessions_from, span_of, one_more_session}
+use Rattle.td_window.proofs.OneSession.{one_more_session}
 use Rattle.td_window.proofs.sessions.session.Goals as goal
 
 pub sessions-preserved : goal.sessions-preserved

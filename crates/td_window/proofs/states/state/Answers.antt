@@ -1,9 +1,9 @@
-use Rattle.std.proofs.Common.{◌≡◌, ◌≢◌, ◌+◌, ◌-◌, ◌≤◌, ◌∷◌, length, refl, sym, arith, ap, ◌∙◌, map, All, subst}
+use Rattle.std.proofs.Common.{◌≡◌, ◌≢◌, ◌+◌, ◌-◌, ◌≤◌, length, sym, arith, ap, ◌∙◌}
 use Rattle.std.proofs.lemmas.List.Elements.{All-push, All-nil}
 use Rattle.td_layer.specs.declared.values.Value.TheVariants.{Null}
 use Rattle.td_window.specs.Spans.{time_at, state_at, window_with_states, IsInside}
 use Rattle.td_window.proofs.Cuts.{one_more_window, cast_span}
-use Rattle.td_window.proofs.OneState.{states_from, span_of, one_more_state, states_begin}
+use Rattle.td_window.proofs.OneState.{one_more_state, states_begin}
 use Rattle.td_window.proofs.states.state.Goals as goal
 
 pub windows-init : goal.windows-init
