@@ -1,7 +1,5 @@
 -- How a list is cut where its first group is known, and how lists of places divide.
-use Rattle.std.proofs.Common.{◌≡◌, ℕ, zero, suc, ◌+◌, ◌-◌, ◌<◌, ◌≤◌, Bool, true, false, cond, List, [], ◌∷◌, ◌++◌, map, filter, refl, sym, ap, ◌∙◌, subst, arith, ◌^◌, ℤ, pos, ◌-ℤ◌, to_z, of_z, w64}
-use Rattle.std.proofs.lemmas.Int.{ints, to_z_pos}
-use Rattle.td_window.specs.declared.span.Span.{Span}
+use Rattle.std.proofs.Common.{◌≡◌, ℕ, zero, suc, ◌+◌, ◌-◌, ◌<◌, ◌≤◌, Bool, true, false, cond, List, [], ◌∷◌, ◌++◌, map, filter, refl, sym, ap, ◌∙◌, subst, arith}
 use Rattle.std.specs.List.{range_with_len}
 use Rattle.td_layer.specs.Windows.{cut, led_by, last_of}
 
@@ -90,22 +88,3 @@ Ends-range apart x past (suc k) h = h (omega arith)
 pub last_place : (a m : ℕ) → last_of a (range_with_len (a + 1) m) ≡ a + m
 last_place a zero = omega arith
 last_place a (suc m) = last_place (a + 1) m ∙ omega arith
-
--- ---- spans, whose ends the code casts
-abbrev pub spanning : ℤ → ℤ → ℕ → ℕ → Span
-spanning start end first rows = record { start = start; end = end; first = first; rows = rows }
-
-cast_is : (n : ℕ) → n < 2 ^ 63 → to_z w64 n ≡ pos n
-cast_is n h = to_z_pos w64 n h
-
-pub cast_span : (a b first rows : ℕ) → a < 2 ^ 63 → b < 2 ^ 63 → spanning (to_z w64 a) (to_z w64 b) first rows ≡ spanning (pos a) (pos b) first rows
-cast_span a b first rows p q = rw (cast_is a p, cast_is b q)
-
--- a start that the code takes from an end and a length
-pub cast_span_from : (e len first rows : ℕ) → e < 2 ^ 62 → len < 2 ^ 62 → spanning (to_z w64 (of_z w64 (to_z w64 e -ℤ to_z w64 len))) (to_z w64 e) first rows ≡ spanning (pos e -ℤ pos len) (pos e) first rows
-cast_span_from e len first rows p q =
-    let a : to_z w64 (of_z w64 (to_z w64 e -ℤ to_z w64 len)) ≡ pos e -ℤ pos len = omega (arith, ints) in
-    let b : to_z w64 e ≡ pos e = cast_is e (omega arith) in
-    let f : ℤ → Span = λ s. spanning s (to_z w64 e) first rows in
-    let g : ℤ → Span = λ t. spanning (pos e -ℤ pos len) t first rows in
-    ap f a ∙ ap g b

@@ -3,9 +3,8 @@ use Rattle.std.proofs.Common.{◌≡◌, ℕ, zero, suc, ◌+◌, ◌-◌, ◌<�
 use Rattle.std.proofs.lemmas.Bool.Decides.{nat_tests}
 use Rattle.std.specs.List.{range_with_len}
 use Rattle.td_layer.specs.Windows.{Window, cut, last_of, window_of_group, session_windows}
-use Rattle.td_window.specs.Spans.{time_at, window_of}
-use Rattle.td_window.specs.declared.span.Span.{Span}
-use Rattle.td_window.proofs.Cuts.{IsRun, cut_run, range_at, range_first, Ends-range, last_place, spanning}
+use Rattle.td_window.specs.Spans.{time_at, span_between, window_of}
+use Rattle.td_window.proofs.Cuts.{IsRun, cut_run, range_at, range_first, Ends-range, last_place}
 
 module _ (ts : List ℕ) (tol : ℕ) where
   abbrev apart : ℕ → ℕ → Bool
@@ -21,11 +20,7 @@ module _ (ts : List ℕ) (tol : ℕ) where
       let here = near a (omega arith) (omega arith) in
       (grind (arith, nat_tests), run_of_places (a + 1) m (λ p u v. near p (omega arith) (omega arith)))
 
-  -- the span of a session
-  abbrev pub span_of : ℕ → ℕ → Span
-  span_of first past = spanning (pos (time_at ts first)) (pos (time_at ts (past - 1))) first (past - first)
-
-  pub one_more_session : (first past : ℕ) → first < past → past ≤ length ts → ((p : ℕ) → first ≤ p → p + 1 < past → time_at ts (p + 1) - time_at ts p ≤ tol) → (past < length ts → tol < time_at ts past - time_at ts (past - 1)) → sessions_from first ≡ window_of (span_of first past) ∷ sessions_from past
+  pub one_more_session : (first past : ℕ) → first < past → past ≤ length ts → ((p : ℕ) → first ≤ p → p + 1 < past → time_at ts (p + 1) - time_at ts p ≤ tol) → (past < length ts → tol < time_at ts past - time_at ts (past - 1)) → sessions_from first ≡ window_of (span_between ts first (past - 1)) ∷ sessions_from past
   one_more_session first past a b together ends = ap (map (window_of_group (time_at ts))) (ap (cut apart) divided ∙ first_group) ∙ ap (λ (w : Window ℕ). w ∷ sessions_from past) same
     where
       others : List ℕ
@@ -49,5 +44,5 @@ module _ (ts : List ℕ) (tol : ℕ) where
       first_group : cut apart (first ∷ (others ++ rest)) ≡ (first, others) ∷ cut apart rest
       first_group = cut_run apart first others rest (run_of_places first (past - first - 1) (λ p u v. together p u (omega arith))) (Ends-range apart (last_of first others) past (length ts - past) after)
 
-      same : window_of_group (time_at ts) (first, others) ≡ window_of (span_of first past)
-      same = rw last (ap (λ (l : List ℕ). record { start = pos (time_at ts first); end = pos (time_at ts (past - 1)); rows = l }) (sym whole))
+      same : window_of_group (time_at ts) (first, others) ≡ window_of (span_between ts first (past - 1))
+      same = let rows : past - first ≡ past - 1 - first + 1 = omega arith in rw last (ap (λ (l : List ℕ). record { start = pos (time_at ts first); end = pos (time_at ts (past - 1)); rows = l }) (sym whole ∙ ap (range_with_len first) rows))

@@ -7,9 +7,8 @@ use Rattle.std.specs.List.{range_with_len}
 use Rattle.td_layer.specs.declared.values.Value.{Value}
 use Rattle.td_layer.specs.declared.values.Value.TheVariants.{Null, Num}
 use Rattle.td_layer.specs.Windows.{Window, cut, last_of, window_of_group, state_windows, isnt_null, is_same_state}
-use Rattle.td_window.specs.Spans.{time_at, state_at, window_with_states, places}
-use Rattle.td_window.specs.declared.span.Span.{Span}
-use Rattle.td_window.proofs.Cuts.{IsRun, Ends, cut_run, range_at, range_first, range_last, filter_no_range, last_of-append, spanning}
+use Rattle.td_window.specs.Spans.{time_at, span_between, state_at, window_with_states, places}
+use Rattle.td_window.proofs.Cuts.{IsRun, Ends, cut_run, range_at, range_first, range_last, filter_no_range, last_of-append}
 
 -- ---- states
 is_same-refl : (v : Value) → v ≢ Null → is_same_state v v ≡ true
@@ -66,10 +65,6 @@ module _ (ts : List ℕ) (values : List Value) where
           let s : apart x a ≡ false = rw (e, same, is_same-refl v n) in
           rw t (s, rest a same)
 
-  -- the span of a state window
-  abbrev pub span_of : ℕ → ℕ → Span
-  span_of first last = spanning (pos (time_at ts first)) (pos (time_at ts last)) first (last - first + 1)
-
   -- the last of the rows that have a state
   last_row : (first last : ℕ) → first ≤ last → state_at values last ≢ Null → last_of first (filter test (range_with_len (first + 1) (last - first))) ≡ last
   last_row first last a n = go (last - first) refl
@@ -89,7 +84,7 @@ module _ (ts : List ℕ) (values : List Value) where
   next_ends x next zero h = tt
   next_ends x next (suc k) h = let t = (h (omega arith)).0 in rw t (h (omega arith)).1
 
-  pub one_more_state : (first last next : ℕ) → first ≤ last → last < next → next ≤ length ts → state_at values first ≢ Null → ((p : ℕ) → first ≤ p → p ≤ last → (state_at values p ≡ Null) ⊎ (state_at values p ≡ state_at values first)) → state_at values last ≡ state_at values first → ((p : ℕ) → last < p → p < next → state_at values p ≡ Null) → (next < length ts → (state_at values next ≢ Null) × (state_at values next ≢ state_at values first)) → states_from first ≡ window_with_states values (span_of first last) ∷ states_from next
+  pub one_more_state : (first last next : ℕ) → first ≤ last → last < next → next ≤ length ts → state_at values first ≢ Null → ((p : ℕ) → first ≤ p → p ≤ last → (state_at values p ≡ Null) ⊎ (state_at values p ≡ state_at values first)) → state_at values last ≡ state_at values first → ((p : ℕ) → last < p → p < next → state_at values p ≡ Null) → (next < length ts → (state_at values next ≢ Null) × (state_at values next ≢ state_at values first)) → states_from first ≡ window_with_states values (span_between ts first last) ∷ states_from next
   one_more_state first last next a b c found same ends between after = ap (map (window_of_group (time_at ts))) (ap (cut apart) divided ∙ first_group) ∙ ap (λ (w : Window ℕ). w ∷ states_from next) window
     where
       v : Value
@@ -130,5 +125,5 @@ module _ (ts : List ℕ) (values : List Value) where
       first_group : cut apart (first ∷ (others ++ rest)) ≡ (first, others) ∷ cut apart rest
       first_group = cut_run apart first others rest run (next_ends (last_of first others) next (length ts - next) next_apart)
 
-      window : window_of_group (time_at ts) (first, others) ≡ window_with_states values (span_of first last)
+      window : window_of_group (time_at ts) (first, others) ≡ window_with_states values (span_between ts first last)
       window = rw last_is (ap (λ (l : List ℕ). record { start = pos (time_at ts first); end = pos (time_at ts last); rows = l }) (sym whole))

@@ -4,7 +4,7 @@ ghost use Rattle.std.specs.List.Sorted.{IsNonDecreasing};
 ghost use Rattle.td_layer.specs.Windows.{AreIntervalWindows};
 ghost use Rattle.td_window.specs.Spans.{places, time_at, window_of, IsInside};
 
-use crate::span::{LATEST, LONGEST, Span};
+use crate::span::{LATEST, LONGEST, Span, span_ending};
 use std::alloc::Global;
 use td_layer::{NoMem, Seq};
 
@@ -34,12 +34,7 @@ pub fn interval(
     'windows: while first < ts.len() {
         end = end.max(end_past(ts[first], phase, slide));
         past = place_from(ts, first.max(past), end);
-        spans.push(Span {
-            start: end as i64 - len as i64,
-            end: end as i64,
-            first: first as u64,
-            rows: (past - first) as u64,
-        })?;
+        spans.push(span_ending(end, len, first, past))?;
         end += slide;
         first = place_from(ts, first, end.saturating_sub(len));
     }

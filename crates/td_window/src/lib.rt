@@ -12,6 +12,8 @@ mod intervals;
 mod sessions;
 mod span;
 mod states;
+#[cfg(test)]
+mod tests;
 
 pub use intervals::interval;
 pub use sessions::session;

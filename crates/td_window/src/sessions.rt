@@ -4,7 +4,7 @@ ghost use Rattle.std.specs.List.Sorted.{IsNonDecreasing};
 ghost use Rattle.td_layer.specs.Windows.{session_windows};
 ghost use Rattle.td_window.specs.Spans.{places, time_at, window_of, IsInside};
 
-use crate::span::{LATEST, Span};
+use crate::span::{LATEST, Span, span_between};
 use std::alloc::Global;
 use td_layer::{NoMem, Seq};
 
@@ -20,12 +20,7 @@ pub fn session(alloc: Global, ts: &[u64], tol: u64) -> Result<Seq<Span>, NoMem>
     let mut first = 0;
     'sessions: while first < ts.len() {
         let past = session_end(ts, first, tol);
-        spans.push(Span {
-            start: ts[first] as i64,
-            end: ts[past - 1] as i64,
-            first: first as u64,
-            rows: (past - first) as u64,
-        })?;
+        spans.push(span_between(ts, first, past - 1))?;
         first = past;
     }
     Ok(Seq::from_vec(alloc, spans))

@@ -4,7 +4,7 @@ ghost use Rattle.td_layer.specs.declared.values.Value.TheVariants as value;
 ghost use Rattle.td_layer.specs.Windows.{state_windows, isnt_null};
 ghost use Rattle.td_window.specs.Spans.{places, time_at, state_at, window_with_states, IsInside};
 
-use crate::span::{LATEST, Span};
+use crate::span::{LATEST, Span, span_between};
 use std::alloc::Global;
 use td_layer::{NoMem, Seq, Value};
 
@@ -23,12 +23,7 @@ pub fn state(alloc: Global, ts: &[u64], values: &[Value]) -> Result<Seq<Span>, N
     let mut first = first_state(values);
     'windows: while first < values.len() {
         let run = run_of(values, first);
-        spans.push(Span {
-            start: ts[first] as i64,
-            end: ts[run.last] as i64,
-            first: first as u64,
-            rows: (run.last - first + 1) as u64,
-        })?;
+        spans.push(span_between(ts, first, run.last))?;
         first = run.next;
     }
     Ok(Seq::from_vec(alloc, spans))

@@ -1,8 +1,7 @@
-use Rattle.std.proofs.Common.{◌+◌, ◌-◌, length, arith, ap, map}
+use Rattle.std.proofs.Common.{◌+◌, length, arith, ap, map}
 use Rattle.std.proofs.lemmas.List.Elements.{All-push, All-nil}
 use Rattle.td_window.specs.Spans.{window_of, IsInside}
 use Rattle.td_window.proofs.OneInterval.{Next, loop_begins, next_loop, loop_ends, pushed}
-use Rattle.td_window.proofs.Cuts.{cast_span_from}
 use Rattle.td_window.proofs.intervals.interval.Goals as goal
 
 pub windows-init : goal.windows-init
@@ -36,11 +35,9 @@ windows-preserved c =
     let starts = c.max.ensures in
     let bound = c.saturating_sub.ensures in
     let step = next_loop ts len c.args.offset slide c.requires.slide.0 c.requires.slide.1 c.requires.in_order (map window_of c.windows.spans.items) e first past f past' first' c.windows.invariant.loop c.windows-test.true next (omega (arith, starts, from-past.inside)) from-past.inside.1 (λ p h i. from-past.below p (omega (arith, starts)) i) from-past.found from-first.inside.0 from-first.inside.1 (λ p h i. let x = from-first.below p h i in omega (arith, bound)) (λ h. let x = from-first.found h in omega (arith, bound)) in
-    let at-first = c.requires.in_range first 0 c.windows-test.true in
-    let cast = cast_span_from f len first (past' - first) (omega (arith, c.max-end.ensures, least.near, c.windows.invariant.loop.after first)) (omega (arith, c.requires.length)) in
     record {
-      loop = rw c.in_ok-push.ensures.items (pushed ts len c.args.offset slide c.windows.spans.items _ f first past' (f + slide) first' (ap window_of cast) step.1);
-      spans = rw c.in_ok-push.ensures.items (All-push (IsInside (length ts)) c.windows.spans.items _ c.windows.invariant.spans (omega (arith, step.0), omega (arith, step.0, from-past.inside)));
+      loop = rw c.in_ok-push.ensures.items (pushed ts len c.args.offset slide c.windows.spans.items _ f first past' (f + slide) first' (ap window_of c.span_ending.ensures) step.1);
+      spans = rw c.in_ok-push.ensures.items (All-push (IsInside (length ts)) c.windows.spans.items _ c.windows.invariant.spans (rw c.span_ending.ensures (omega (arith, step.0), omega (arith, step.0, from-past.inside))));
     }
 
 pub returns-clause-windows : goal.returns-clause-windows

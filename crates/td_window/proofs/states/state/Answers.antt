@@ -1,8 +1,8 @@
 use Rattle.std.proofs.Common.{◌≡◌, ◌≢◌, ◌+◌, ◌-◌, ◌≤◌, length, sym, arith, ap, ◌∙◌}
 use Rattle.std.proofs.lemmas.List.Elements.{All-push, All-nil}
 use Rattle.td_layer.specs.declared.values.Value.TheVariants.{Null}
-use Rattle.td_window.specs.Spans.{time_at, state_at, window_with_states, IsInside}
-use Rattle.td_window.proofs.Cuts.{one_more_window, cast_span}
+use Rattle.td_window.specs.Spans.{state_at, window_with_states, IsInside}
+use Rattle.td_window.proofs.Cuts.{one_more_window}
 use Rattle.td_window.proofs.OneState.{one_more_state, states_begin}
 use Rattle.td_window.proofs.states.state.Goals as goal
 
@@ -32,16 +32,13 @@ windows-preserved c =
     let found = c.windows.invariant.found c.windows-test.true in
     let in_ts : next ≤ length ts = omega (arith, same_length, run.last.2) in
     let step = one_more_state ts values first last next run.last.0 run.last.1 in_ts found run.same run.ends run.between (λ h. run.next (omega (arith, same_length))) in
-    let at-first = c.requires.in_range first 0 (omega arith) in
-    let at-last = c.requires.in_range last 0 (omega arith) in
-    let cast = cast_span (time_at ts first) (time_at ts last) first (last - first + 1) (omega arith) (omega arith) in
     let last_place : first + (last - first + 1) - 1 ≡ last = omega (arith, run.last.0) in
     let last_found : state_at values last ≢ Null = λ e. found (sym run.ends ∙ e) in
     record {
       inside = run.last.2;
       found = λ h. (run.next h).0;
-      windows = rw c.in_ok-push.ensures.items (one_more_window (window_with_states values) c.windows.spans.items _ _ _ _ _ c.windows.invariant.windows step (ap (window_with_states values) cast));
-      spans = rw c.in_ok-push.ensures.items (All-push (IsInside (length ts)) c.windows.spans.items _ c.windows.invariant.spans (omega arith, omega arith));
-      firsts = rw c.in_ok-push.ensures.items (All-push (λ s. state_at values s.first ≢ Null) c.windows.spans.items _ c.windows.invariant.firsts found);
-      lasts = rw c.in_ok-push.ensures.items (All-push (λ s. state_at values (s.first + s.rows - 1) ≢ Null) c.windows.spans.items _ c.windows.invariant.lasts (rw last_place last_found));
+      windows = rw c.in_ok-push.ensures.items (one_more_window (window_with_states values) c.windows.spans.items _ _ _ _ _ c.windows.invariant.windows step (ap (window_with_states values) c.span_between.ensures));
+      spans = rw c.in_ok-push.ensures.items (All-push (IsInside (length ts)) c.windows.spans.items _ c.windows.invariant.spans (rw c.span_between.ensures (omega arith, omega arith)));
+      firsts = rw c.in_ok-push.ensures.items (All-push (λ s. state_at values s.first ≢ Null) c.windows.spans.items _ c.windows.invariant.firsts (rw c.span_between.ensures found));
+      lasts = rw c.in_ok-push.ensures.items (All-push (λ s. state_at values (s.first + s.rows - 1) ≢ Null) c.windows.spans.items _ c.windows.invariant.lasts (rw (c.span_between.ensures, last_place) last_found));
     }
