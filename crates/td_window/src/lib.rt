@@ -9,6 +9,7 @@
 #![tactic(auto)]
 
 mod intervals;
+mod laws;
 mod sessions;
 mod span;
 mod states;
@@ -16,6 +17,7 @@ mod states;
 mod tests;
 
 pub use intervals::interval;
+pub use laws::{interval_windows_are_determined, spans_group_rows};
 pub use sessions::session;
 pub use span::{LATEST, LONGEST, Span};
 pub use states::state;
