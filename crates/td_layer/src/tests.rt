@@ -5,24 +5,17 @@ use std::test::Fail;
 #[test]
 fn a_list_does_what_its_calls_say(rt: HostRuntime) -> Result<(), Fail> {
     let alloc = rt.alloc();
-    let mut list = Seq::new(alloc);
-    assert!(rt; list.is_empty() && list.pop() == None);
-    list.reserve(4)?;
-    for item in [5u8, 7, 9] {
-        assert!(rt; list.push(item).is_ok());
-    }
-    list.insert(1, 6)?;
-    list.set(3, 8);
-    assert_eq!(rt; list.as_slice(), [5, 6, 7, 8].as_slice());
-    assert_eq!(rt; list.len(), 4);
-    assert_eq!(rt; list.get(2).copied(), Some(7));
-    assert_eq!(rt; list.get(4).copied(), None);
-    let copy = list.copy()?;
-    assert_eq!(rt; copy.as_slice(), list.as_slice());
-    assert_eq!(rt; list.pop(), Some(8));
-    let text = Seq::of_bytes(alloc, b"meters")?;
-    assert_eq!(rt; text.as_slice(), b"meters".as_slice());
-    let empty: Name = Seq::from_vec(alloc, Vec::new(alloc));
+    let mut list = Seq::of_bytes(alloc, b"meter")?;
+    list.reserve(2)?;
+    assert!(rt; list.push(b's').is_ok());
+    list.insert(0, b'-')?;
+    list.set(0, b'+');
+    assert_eq!(rt; list.copy()?.as_slice(), b"+meters".as_slice());
+    assert_eq!(rt; list.pop(), Some(b's'));
+    assert_eq!(rt; (list.len(), list.is_empty()), (6, false));
+    assert_eq!(rt; list.get(1).copied(), Some(b'm'));
+    assert_eq!(rt; list.get(6).copied(), None);
+    let empty: Name = Seq::new(alloc);
     empty.done();
     Ok(())
 }

@@ -1,0 +1,134 @@
+//! Tables of small lists, with the windows of each.
+ghost use Rattle.std.specs.Prelude.{◌≡◌, ◌≤◌, ◌↔◌, All, IsTrue};
+ghost use Rattle.std.specs.List.Sorted.{IsNonDecreasing};
+
+use crate::{LATEST, Span, interval, session, state};
+use std::process::Abort;
+use std::test::Fail;
+use td_layer::{Seq, Value};
+
+/// A window: from where to where it goes, the first of its places, and how many there are.
+type Wanted = (i64, i64, u64, u64);
+
+fn check(rt: &impl Abort, spans: &Seq<Span>, wanted: &[Wanted]) {
+    assert_eq!(rt; spans.len(), wanted.len());
+    for (span, wanted) in spans.as_slice().iter().zip(wanted) {
+        assert_eq!(rt; (span.start, span.end, span.first, span.rows), *wanted);
+    }
+}
+
+/// Whether timestamps are such as windows are cut from.
+fn is_cuttable(ts: &[u64]) -> bool
+    ensures in_order { IsTrue result → IsNonDecreasing ts.now }
+    ensures in_range { IsTrue result → All (λ t. t ≤ LATEST) ts.now }
+{
+    ts.is_sorted() && ts.iter().all(|t| *t <= LATEST)
+}
+
+#[test]
+fn intervals(rt: HostRuntime) -> Result<(), Fail> {
+    let table: [(&[u64], u64, u64, u64, &[Wanted]); 8] = [
+        (&[], 10_000, 0, 10_000, &[]),
+        (
+            &[9999, 10_000],
+            10_000,
+            0,
+            10_000,
+            &[(0, 10_000, 0, 1), (10_000, 20_000, 1, 1)],
+        ),
+        (
+            &[9999, 10_000],
+            3000,
+            0,
+            1000,
+            &[
+                (7000, 10_000, 0, 1),
+                (8000, 11_000, 0, 2),
+                (9000, 12_000, 0, 2),
+                (10_000, 13_000, 1, 1),
+            ],
+        ),
+        (
+            &[500],
+            3000,
+            0,
+            1000,
+            &[(-2000, 1000, 0, 1), (-1000, 2000, 0, 1), (0, 3000, 0, 1)],
+        ),
+        (
+            &[3999, 4000],
+            10_000,
+            4000,
+            10_000,
+            &[(-6000, 4000, 0, 1), (4000, 14_000, 1, 1)],
+        ),
+        (&[5000, 5000, 5000], 10_000, 0, 10_000, &[(0, 10_000, 0, 3)]),
+        (
+            &[0, 100_000],
+            10_000,
+            0,
+            10_000,
+            &[(0, 10_000, 0, 1), (100_000, 110_000, 1, 1)],
+        ),
+        (
+            &[253_402_300_799_999],
+            2,
+            1,
+            2,
+            &[(253_402_300_799_999, 253_402_300_800_001, 0, 1)],
+        ),
+    ];
+    for (ts, len, offset, slide, wanted) in table {
+        if is_cuttable(ts) && len <= 100_000 && offset < len && slide > 0 && slide <= len {
+            check(&rt, &interval(rt.alloc(), ts, len, offset, slide)?, wanted);
+        } else {
+            panic!(&rt);
+        }
+    }
+    Ok(())
+}
+
+#[test]
+fn sessions(rt: HostRuntime) -> Result<(), Fail> {
+    let table: [(&[u64], u64, &[Wanted]); 4] = [
+        (&[], 1000, &[]),
+        (&[7], 1000, &[(7, 7, 0, 1)]),
+        (
+            &[0, 1000, 2001, 2001],
+            1000,
+            &[(0, 1000, 0, 2), (2001, 2001, 2, 2)],
+        ),
+        (&[5, 5, 6], 0, &[(5, 5, 0, 2), (6, 6, 2, 1)]),
+    ];
+    for (ts, tol, wanted) in table {
+        if is_cuttable(ts) {
+            check(&rt, &session(rt.alloc(), ts, tol)?, wanted);
+        } else {
+            panic!(&rt);
+        }
+    }
+    Ok(())
+}
+
+#[test]
+fn states(rt: HostRuntime) -> Result<(), Fail> {
+    let ts = [10, 20, 30, 40, 50, 60, 70, 80, 90];
+    let (none, one, two) = (Value::Null, Value::Num(1), Value::Num(2));
+    let values = [none, one, one, none, one, two, none, two, none];
+    if is_cuttable(&ts) {
+        check(
+            &rt,
+            &state(rt.alloc(), &ts, &values)?,
+            &[(20, 50, 1, 4), (60, 80, 5, 3)],
+        );
+        check(&rt, &state(rt.alloc(), &ts[..2], &[none, none])?, &[]);
+        check(
+            &rt,
+            &state(rt.alloc(), &ts[..2], &[two, one])?,
+            &[(10, 10, 0, 1), (20, 20, 1, 1)],
+        );
+    } else {
+        panic!(&rt);
+    }
+    Ok(())
+}
