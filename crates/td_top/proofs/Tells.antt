@@ -22,7 +22,7 @@ use Rattle.td_model.specs.Catalog.{table_named}
 use Rattle.td_model.proofs.Steps.{step_version, step_moment}
 use Rattle.td_model.specs.Verdict.{table_name, one_put, put_of, make_verdict, insert_verdict, select_verdict, verdict, header, answer}
 use Rattle.td_model.specs.Told.{IsHistory, IsListed, IsPrefix, Answers, EachAnswered, statement_at, entry_of, entry_if, InOrder, NumberIs, front_after, NumberFollows, number_or, NeverFalling, Rising, listed, accepted, with_version, version_of, Told, ToldInOrder}
-use Rattle.td_top.specs.Turn.{reply_of, accepted_reply, state_then, line_then, as_list, reply_line_at, line_at, entry_at}
+use Rattle.td_top.specs.Turn.{clock_reads, reply_of, accepted_reply, state_then, line_then, as_list, reply_line_at, line_at, entry_at}
 use Rattle.td_top.proofs.Plays.{Plays, Judged}
 
 -- which verdicts a statement may have
@@ -59,6 +59,12 @@ fits : (q : Form) (s : State) (m : ℕ) → Fits q (verdict q s m)
 fits form.MakeTable s m = elim (table_named table_name s.catalog) as (λ o. Fits form.MakeTable (make_verdict o)) [ None ↦ tt | Some n ↦ tt ]
 fits (form.Insert x y) s m = elim (table_named table_name s.catalog) as (λ o. Fits (form.Insert x y) (insert_verdict o x y)) [ None ↦ tt | Some n ↦ put_fits x y n x y ]
 fits form.Select s m = elim (table_named table_name s.catalog) as (λ o. Fits form.Select (select_verdict o)) [ None ↦ tt | Some n ↦ tt ]
+
+-- a statement that is accepted reads the clock
+reads_one : (q : Form) (w : What) (rows : ℕ) → Fits q (Accept w rows) → clock_reads q ≡ 1
+reads_one form.MakeTable w rows f = refl
+reads_one (form.Insert x y) w rows f = refl
+reads_one form.Select w rows f = absurd f
 
 -- the moment has no part in it yet
 timeless : (q : Form) (s : State) (m k : ℕ) → verdict q s m ≡ verdict q s k
@@ -148,16 +154,16 @@ starved b h journal n form.Select = tt
 abbrev pub Moments : (ℕ → ℕ → Type 0) → ℕ → List Entry → Type 0
 Moments P n h = (k : ℕ) (e : Entry) → slice_get h k ≡ Some e → (i : ℕ) × (n + k ≤ i) × P i e.moment
 
-moments_later : (P : ℕ → ℕ → Type 0) (n : ℕ) (h : List Entry) → Moments P (n + 1) h → Moments P n h
-moments_later P n h later k e is = let found = later k e is in (found.0, omega (arith, found.1), found.2)
+moments_later : (P : ℕ → ℕ → Type 0) (n i : ℕ) (h : List Entry) → n ≤ i → Moments P i h → Moments P n h
+moments_later P n i h l later k e is = let found = later k e is in (found.0, omega (arith, found.1), found.2)
 
 moments_more : (P : ℕ → ℕ → Type 0) (n : ℕ) (x : Entry) (h : List Entry) → P n x.moment → Moments P (n + 1) h → Moments P n (x ∷ h)
 moments_more P n x h ok later zero e is = let same : x ≡ e = cc in (n, omega arith, subst (λ (y : Entry). P n y.moment) same ok)
 moments_more P n x h ok later (suc k) e is = let found = later k e is in (found.0, omega (arith, found.1), found.2)
 
 -- The rest of a run, told from where it begins.
-abbrev Outcome : (ℕ → ℕ → Type 0) → State → List Form → List Form → List Entry → List JournalLine → State → List State → ℕ → List (ℕ × ℕ × Reply) → List JournalLine → Type 0
-Outcome P b front qs h0 j0 s older n rs js = (h : List Entry) × IsHistory (s ∷ older) (front ++ qs) js h × Moments P n h × EachAnswered b (h0 ++ h) (j0 ++ js) n qs rs
+abbrev Outcome : (ℕ → ℕ → Type 0) → State → List Form → List Form → List Entry → List JournalLine → State → List State → ℕ → ℕ → List (ℕ × ℕ × Reply) → List JournalLine → Type 0
+Outcome P b front qs h0 j0 s older n c rs js = (h : List Entry) × IsHistory (s ∷ older) (front ++ qs) js h × Moments P (c + 1) h × EachAnswered b (h0 ++ h) (j0 ++ js) n qs rs
 
 -- the lines of the journal name statements of the script
 module _ (b s : State) (front qs : List Form) (q : Form) (n m : ℕ) (place : n ≡ length front + 1) where
@@ -167,16 +173,16 @@ module _ (b s : State) (front qs : List Form) (q : Form) (n m : ℕ) (place : n 
   entry_here : (w : What) (rows : ℕ) → verdict q s m ≡ Accept w rows → entry_of s (front ++ q ∷ qs) (line_at (s.version + 1) n m) ≡ Some (entry_at n m w)
   entry_here w rows e = rw (statement_here, e) refl
 
-module _ (P : ℕ → ℕ → Type 0) (b s : State) (older : List State) (front qs : List Form) (q : Form) (h0 : List Entry) (j0 : List JournalLine) (n m : ℕ) (r : (ℕ × ℕ × Reply)) (rs : List (ℕ × ℕ × Reply)) (js rest : List JournalLine) (begins : Begins b s older h0 j0) (place : n ≡ length front + 1) where
+module _ (P : ℕ → ℕ → Type 0) (b s : State) (older : List State) (front qs : List Form) (q : Form) (h0 : List Entry) (j0 : List JournalLine) (n c m : ℕ) (r : (ℕ × ℕ × Reply)) (rs : List (ℕ × ℕ × Reply)) (js rest : List JournalLine) (begins : Begins b s older h0 j0) (place : n ≡ length front + 1) where
   -- a turn without an entry
-  kept : (v : Option Verdict) → r ≡ reply_line_at n (reply_of v s) → js ≡ rest → ((h : List Entry) → Answers b (h0 ++ h) (j0 ++ rest) n q (reply_of v s)) → Outcome P b (front ++ q ∷ []) qs h0 j0 s older (n + 1) rs rest → Outcome P b front (q ∷ qs) h0 j0 s older n (r ∷ rs) js
+  kept : (v : Option Verdict) → r ≡ reply_line_at n (reply_of v s) → js ≡ rest → ((h : List Entry) → Answers b (h0 ++ h) (j0 ++ rest) n q (reply_of v s)) → Outcome P b (front ++ q ∷ []) qs h0 j0 s older (n + 1) (c + clock_reads q) rs rest → Outcome P b front (q ∷ qs) h0 j0 s older n c (r ∷ rs) js
   kept v reply lines answers later =
-      let told : Outcome P b front (q ∷ qs) h0 j0 s older n (reply_line_at n (reply_of v s) ∷ rs) rest = (later.0, subst (λ x. IsHistory (s ∷ older) x rest later.0) (append_assoc front (q ∷ []) qs) later.1, moments_later P n later.0 later.2, (refl, refl, answers later.0, later.3)) in
-      subst (λ y. Outcome P b front (q ∷ qs) h0 j0 s older n (r ∷ rs) y) (sym lines) (subst (λ x. Outcome P b front (q ∷ qs) h0 j0 s older n (x ∷ rs) rest) (sym reply) told)
+      let told : Outcome P b front (q ∷ qs) h0 j0 s older n c (reply_line_at n (reply_of v s) ∷ rs) rest = (later.0, subst (λ x. IsHistory (s ∷ older) x rest later.0) (append_assoc front (q ∷ []) qs) later.1, moments_later P (c + 1) (c + clock_reads q + 1) later.0 (omega arith) later.2, (refl, refl, answers later.0, later.3)) in
+      subst (λ y. Outcome P b front (q ∷ qs) h0 j0 s older n c (r ∷ rs) y) (sym lines) (subst (λ x. Outcome P b front (q ∷ qs) h0 j0 s older n c (x ∷ rs) rest) (sym reply) told)
 
   -- a turn with an entry
-  entered : (w : What) (rows : ℕ) → verdict q s m ≡ Accept w rows → s.moment ≤ m → P n m → r ≡ reply_line_at n (reply_of (Some (Accept w rows)) s) → js ≡ line_at (s.version + 1) n m ∷ rest
-      → Outcome P b (front ++ q ∷ []) qs (h0 ++ entry_at n m w ∷ []) (j0 ++ line_at (s.version + 1) n m ∷ []) (step s (entry_at n m w)) (s ∷ older) (n + 1) rs rest → Outcome P b front (q ∷ qs) h0 j0 s older n (r ∷ rs) js
+  entered : (w : What) (rows : ℕ) → verdict q s m ≡ Accept w rows → s.moment ≤ m → P (c + clock_reads q) m → r ≡ reply_line_at n (reply_of (Some (Accept w rows)) s) → js ≡ line_at (s.version + 1) n m ∷ rest
+      → Outcome P b (front ++ q ∷ []) qs (h0 ++ entry_at n m w ∷ []) (j0 ++ line_at (s.version + 1) n m ∷ []) (step s (entry_at n m w)) (s ∷ older) (n + 1) (c + clock_reads q) rs rest → Outcome P b front (q ∷ qs) h0 j0 s older n c (r ∷ rs) js
   entered w rows e early ok reply lines later =
       let h = later.0 in
       let line = line_at (s.version + 1) n m in
@@ -184,9 +190,10 @@ module _ (P : ℕ → ℕ → Type 0) (b s : State) (older : List State) (front 
       let each = subst (λ x. EachAnswered b x ((j0 ++ line ∷ []) ++ rest) (n + 1) qs rs) (append_assoc h0 (entry_at n m w ∷ []) h) later.3 in
       let each' = subst (λ x. EachAnswered b (h0 ++ entry_at n m w ∷ h) x (n + 1) qs rs) (append_assoc j0 (line ∷ []) rest) each in
       let fit : Fits q (Accept w rows) = subst (Fits q) e (fits q s m) in
-      let told : Outcome P b front (q ∷ qs) h0 j0 s older n (reply_line_at n (reply_of (Some (Accept w rows)) s) ∷ rs) (line ∷ rest) =
-      (entry_at n m w ∷ h, (refl, refl, early, entry_here b s front qs q n m place w rows e, history), moments_more P n (entry_at n m w) h ok later.2, (refl, refl, answered b s older h0 j0 begins q (Accept w rows) n m (entry_at n m w ∷ h) rest e fit, each')) in
-      subst (λ y. Outcome P b front (q ∷ qs) h0 j0 s older n (r ∷ rs) y) (sym lines) (subst (λ x. Outcome P b front (q ∷ qs) h0 j0 s older n (x ∷ rs) (line ∷ rest)) (sym reply) told)
+      let one : c + clock_reads q ≡ c + 1 = omega (arith, reads_one q w rows fit) in
+      let told : Outcome P b front (q ∷ qs) h0 j0 s older n c (reply_line_at n (reply_of (Some (Accept w rows)) s) ∷ rs) (line ∷ rest) =
+      (entry_at n m w ∷ h, (refl, refl, early, entry_here b s front qs q n m place w rows e, history), moments_more P (c + 1) (entry_at n m w) h (subst (λ x. P x m) one ok) (subst (λ x. Moments P (x + 1) h) one later.2), (refl, refl, answered b s older h0 j0 begins q (Accept w rows) n m (entry_at n m w ∷ h) rest e fit, each')) in
+      subst (λ y. Outcome P b front (q ∷ qs) h0 j0 s older n c (r ∷ rs) y) (sym lines) (subst (λ x. Outcome P b front (q ∷ qs) h0 j0 s older n c (x ∷ rs) (line ∷ rest)) (sym reply) told)
 
 -- what the replies and the lines of a rest of a run are to each other, from a version on
 record InRun (front : ℕ) (n : ℕ) (rs : List (ℕ × ℕ × Reply)) (js : List JournalLine) : Type 0 where
@@ -226,49 +233,49 @@ one_more w front n m rows rs js later =
     }
 
 module _ (P : ℕ → ℕ → Type 0) (b : State) where
-  told_from : (front qs : List Form) (h0 : List Entry) (j0 : List JournalLine) (s t : State) (older : List State) (n : ℕ) (rs : List (ℕ × ℕ × Reply)) (js : List JournalLine) → Begins b s older h0 j0 → n ≡ length front + 1 → Plays P n s qs rs js t → Outcome P b front qs h0 j0 s older n rs js
-  told_from front [] h0 j0 s t older n [] js begins place p = rw p.0 ([], tt, (λ k e is. cc), tt)
-  told_from front [] h0 j0 s t older n (r ∷ rs) js begins place p = absurd p
-  told_from front (q ∷ qs) h0 j0 s t older n [] js begins place p = absurd p
-  told_from front (q ∷ qs) h0 j0 s t older n (r ∷ rs) js begins place p =
+  told_from : (front qs : List Form) (h0 : List Entry) (j0 : List JournalLine) (s t : State) (older : List State) (n c : ℕ) (rs : List (ℕ × ℕ × Reply)) (js : List JournalLine) → Begins b s older h0 j0 → n ≡ length front + 1 → Plays P n c s qs rs js t → Outcome P b front qs h0 j0 s older n c rs js
+  told_from front [] h0 j0 s t older n c [] js begins place p = rw p.0 ([], tt, (λ k e is. cc), tt)
+  told_from front [] h0 j0 s t older n c (r ∷ rs) js begins place p = absurd p
+  told_from front (q ∷ qs) h0 j0 s t older n c [] js begins place p = absurd p
+  told_from front (q ∷ qs) h0 j0 s t older n c (r ∷ rs) js begins place p =
       let m = p.0 in
       let next : n + 1 ≡ length (front ++ q ∷ []) + 1 = omega (arith, length-append front (q ∷ [])) in
-      elim p.2 as (λ v. Judged v (verdict q s m) → r ≡ reply_line_at n (reply_of v s) → js ≡ as_list (line_then v s n m) ++ p.5 → Plays P (n + 1) (state_then v s n m) qs rs p.5 t → Outcome P b front (q ∷ qs) h0 j0 s older n (r ∷ rs) js) [
-        | Some (Accept w rows) ↦ λ e reply lines rest. entered P b s older front qs q h0 j0 n m r rs js p.5 begins place w rows (sym e) p.1.0 p.1.1 reply lines
-            (told_from (front ++ q ∷ []) qs (h0 ++ entry_at n m w ∷ []) (j0 ++ line_at (s.version + 1) n m ∷ []) (step s (entry_at n m w)) t (s ∷ older) (n + 1) rs p.5 (begins_next b s older h0 j0 begins n m w) next rest)
-        | Some Pass ↦ λ e reply lines rest. kept P b s older front qs q h0 j0 n m r rs js p.5 begins place (Some Pass) reply lines
+      elim p.2 as (λ v. Judged v (verdict q s m) → r ≡ reply_line_at n (reply_of v s) → js ≡ as_list (line_then v s n m) ++ p.5 → Plays P (n + 1) (c + clock_reads q) (state_then v s n m) qs rs p.5 t → Outcome P b front (q ∷ qs) h0 j0 s older n c (r ∷ rs) js) [
+        | Some (Accept w rows) ↦ λ e reply lines rest. entered P b s older front qs q h0 j0 n c m r rs js p.5 begins place w rows (sym e) p.1.0 p.1.1 reply lines
+            (told_from (front ++ q ∷ []) qs (h0 ++ entry_at n m w ∷ []) (j0 ++ line_at (s.version + 1) n m ∷ []) (step s (entry_at n m w)) t (s ∷ older) (n + 1) (c + clock_reads q) rs p.5 (begins_next b s older h0 j0 begins n m w) next rest)
+        | Some Pass ↦ λ e reply lines rest. kept P b s older front qs q h0 j0 n c m r rs js p.5 begins place (Some Pass) reply lines
             (λ h. answered b s older h0 j0 begins q Pass n m h p.5 (sym e) (subst (Fits q) (sym e) (fits q s m)))
-            (told_from (front ++ q ∷ []) qs h0 j0 s t older (n + 1) rs p.5 begins next rest)
-        | Some (Refuse cause) ↦ λ e reply lines rest. kept P b s older front qs q h0 j0 n m r rs js p.5 begins place (Some (Refuse cause)) reply lines
+            (told_from (front ++ q ∷ []) qs h0 j0 s t older (n + 1) (c + clock_reads q) rs p.5 begins next rest)
+        | Some (Refuse cause) ↦ λ e reply lines rest. kept P b s older front qs q h0 j0 n c m r rs js p.5 begins place (Some (Refuse cause)) reply lines
             (λ h. answered b s older h0 j0 begins q (Refuse cause) n m h p.5 (sym e) (subst (Fits q) (sym e) (fits q s m)))
-            (told_from (front ++ q ∷ []) qs h0 j0 s t older (n + 1) rs p.5 begins next rest)
-        | None ↦ λ e reply lines rest. kept P b s older front qs q h0 j0 n m r rs js p.5 begins place None reply lines
+            (told_from (front ++ q ∷ []) qs h0 j0 s t older (n + 1) (c + clock_reads q) rs p.5 begins next rest)
+        | None ↦ λ e reply lines rest. kept P b s older front qs q h0 j0 n c m r rs js p.5 begins place None reply lines
             (λ h. starved b (h0 ++ h) (j0 ++ p.5) n q)
-            (told_from (front ++ q ∷ []) qs h0 j0 s t older (n + 1) rs p.5 begins next rest)
+            (told_from (front ++ q ∷ []) qs h0 j0 s t older (n + 1) (c + clock_reads q) rs p.5 begins next rest)
       ] p.3 p.4 p.6 p.7
 
   -- the numbers of the replies run with the front, and the journal lists the accepted ones, each once
-  in_order_from : (qs : List Form) (s t : State) (n : ℕ) (rs : List (ℕ × ℕ × Reply)) (js : List JournalLine) → Plays P n s qs rs js t → InRun s.version n rs js
-  in_order_from [] s t n [] js p = rw p.0 (record { order = tt; own = refl; rising = λ k l. tt; numbers = tt })
-  in_order_from [] s t n (r ∷ rs) js p = absurd p
-  in_order_from (q ∷ qs) s t n [] js p = absurd p
-  in_order_from (q ∷ qs) s t n (r ∷ rs) js p =
+  in_order_from : (qs : List Form) (s t : State) (n c : ℕ) (rs : List (ℕ × ℕ × Reply)) (js : List JournalLine) → Plays P n c s qs rs js t → InRun s.version n rs js
+  in_order_from [] s t n c [] js p = rw p.0 (record { order = tt; own = refl; rising = λ k l. tt; numbers = tt })
+  in_order_from [] s t n c (r ∷ rs) js p = absurd p
+  in_order_from (q ∷ qs) s t n c [] js p = absurd p
+  in_order_from (q ∷ qs) s t n c (r ∷ rs) js p =
       let m = p.0 in
-      elim p.2 as (λ v. r ≡ reply_line_at n (reply_of v s) → js ≡ as_list (line_then v s n m) ++ p.5 → Plays P (n + 1) (state_then v s n m) qs rs p.5 t → InRun s.version n (r ∷ rs) js) [
-        | Some (Accept w rows) ↦ λ reply lines rest. let later = in_order_from qs _ t (n + 1) rs p.5 rest in
+      elim p.2 as (λ v. r ≡ reply_line_at n (reply_of v s) → js ≡ as_list (line_then v s n m) ++ p.5 → Plays P (n + 1) (c + clock_reads q) (state_then v s n m) qs rs p.5 t → InRun s.version n (r ∷ rs) js) [
+        | Some (Accept w rows) ↦ λ reply lines rest. let later = in_order_from qs _ t (n + 1) (c + clock_reads q) rs p.5 rest in
             rw (reply, lines) (one_more w s.version n m rows rs p.5 (subst (λ f. InRun f (n + 1) rs p.5) (step_version s (entry_at n m w)) later))
-        | Some Pass ↦ λ reply lines rest. let later = in_order_from qs _ t (n + 1) rs p.5 rest in
+        | Some Pass ↦ λ reply lines rest. let later = in_order_from qs _ t (n + 1) (c + clock_reads q) rs p.5 rest in
             rw (reply, lines) (record { order = (refl, later.order); own = later.own; rising = λ k l. later.rising k (omega arith); numbers = (omega arith, later.numbers) })
-        | Some (Refuse cause) ↦ λ reply lines rest. let later = in_order_from qs _ t (n + 1) rs p.5 rest in
+        | Some (Refuse cause) ↦ λ reply lines rest. let later = in_order_from qs _ t (n + 1) (c + clock_reads q) rs p.5 rest in
             rw (reply, lines) (record { order = (refl, later.order); own = later.own; rising = λ k l. later.rising k (omega arith); numbers = (omega arith, later.numbers) })
-        | None ↦ λ reply lines rest. let later = in_order_from qs _ t (n + 1) rs p.5 rest in
+        | None ↦ λ reply lines rest. let later = in_order_from qs _ t (n + 1) (c + clock_reads q) rs p.5 rest in
             rw (reply, lines) (record { order = (tt, later.order); own = later.own; rising = λ k l. later.rising k (omega arith); numbers = (tt, later.numbers) })
       ] p.4 p.6 p.7
 
-  pub told_of_plays : (readings : Option (List ℕ)) → ((h : List Entry) → Moments P 1 h → Timed readings b.moment h) → (qs : List Form) (rs : List (ℕ × ℕ × Reply)) (js : List JournalLine) (t : State) → Plays P 1 b qs rs js t → ToldInOrder b readings qs (record { base = b.version; replies = rs; streams = []; journal = js })
+  pub told_of_plays : (readings : Option (List ℕ)) → ((h : List Entry) → Moments P 1 h → Timed readings b.moment h) → (qs : List Form) (rs : List (ℕ × ℕ × Reply)) (js : List JournalLine) (t : State) → Plays P 1 0 b qs rs js t → ToldInOrder b readings qs (record { base = b.version; replies = rs; streams = []; journal = js })
   told_of_plays readings times qs rs js t p =
-      let all = told_from [] qs [] [] b t [] 1 rs js (record { states = refl; version = omega arith; lines = refl }) refl p in
-      let run = in_order_from qs b t 1 rs js p in
+      let all = told_from [] qs [] [] b t [] 1 0 rs js (record { states = refl; version = omega arith; lines = refl }) refl p in
+      let run = in_order_from qs b t 1 0 rs js p in
       record {
         told = record {
           base = refl;

@@ -1,5 +1,5 @@
 -- One statement's turn: the reply, the line of the journal and the state that its verdict gives.
-use Rattle.std.specs.Prelude.{◌≡◌, ◌⊎◌, ℕ, ◌+◌, ◌-◌, ◌<◌, List, [], ◌∷◌, Option, Some, None, length}
+use Rattle.std.specs.Prelude.{◌≡◌, ◌⊎◌, ℕ, ◌+◌, ◌-◌, ◌<◌, max, List, [], ◌∷◌, Option, Some, None, length}
 use Rattle.td_layer.specs.declared.values.Value.{Value}
 use Rattle.td_layer.specs.declared.values.Value.TheVariants.{Null}
 use Rattle.td_model.specs.declared.history.What.{What}
@@ -13,6 +13,30 @@ use Rattle.td_model.specs.declared.report.Mark.TheVariants as mark
 use Rattle.td_model.specs.declared.report.JournalLine.{JournalLine}
 use Rattle.td_model.specs.State.{State, step}
 use Rattle.td_model.specs.Verdict.{header, answer}
+use Rattle.td_model.specs.declared.forms.Form.{Form}
+use Rattle.td_model.specs.declared.forms.Form.TheVariants as form
+use Rattle.td_outside.specs.Causes.{Reads}
+
+-- how often a statement's turn reads the clock: once for a write, never for a query
+abbrev pub clock_reads : Form → ℕ
+clock_reads form.MakeTable = 1
+clock_reads (form.Insert ts v) = 1
+clock_reads form.Select = 0
+
+-- a list's turns together
+abbrev pub reads : List Form → ℕ
+reads [] = 0
+reads (q ∷ qs) = clock_reads q + reads qs
+
+-- a reading, which doesn't fall below the moments that were given before
+abbrev pub TakesReading : Option (List ℕ) → Option (List ℕ) → ℕ → ℕ → Type 0
+TakesReading before after floor m = (now : ℕ) × Reads before after now × (m ≡ max now floor)
+
+-- The moment of a statement's turn: of a write a reading, of a query the last moment that was given.
+abbrev pub TakesMoment : Form → Option (List ℕ) → Option (List ℕ) → ℕ → ℕ → Type 0
+TakesMoment form.MakeTable before after floor m = TakesReading before after floor m
+TakesMoment (form.Insert ts v) before after floor m = TakesReading before after floor m
+TakesMoment form.Select before after floor m = (after ≡ before) × (m ≡ floor)
 
 -- a named value, else the one below, else NULL
 abbrev pub laid_value : Option Value → Option Value → Value

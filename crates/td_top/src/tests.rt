@@ -200,3 +200,20 @@ fn each_status_has_its_number_and_line(rt: HostRuntime) -> Result<(), Fail> {
     }
     Ok(())
 }
+
+#[test]
+fn a_write_reads_the_clock_and_a_query_does_not(rt: HostRuntime) -> Result<(), Fail> {
+    let alloc = rt.alloc();
+    let insert = "1: INSERT INTO t VALUES (1, 1)\n";
+    let script = format!(in alloc; "{}{}{}{}{}{}", ALL, MAKE, ALL, insert, insert, insert)?;
+    let bytes = Seq::of_bytes(alloc, script.as_bytes())?;
+    let mut input = MemSource::new(bytes, 100, Seq::new(alloc));
+    let mut out = MemSink::new(alloc, 512, 512, Seq::new(alloc))?;
+    let mut place = MemPlace::new(MemStore);
+    let clock = Ticks::new(Seq::from_vec(alloc, vec![in alloc; 5, 3, 9]?));
+    let status = play(alloc, b"d", &mut input, &mut out, &mut place, clock);
+    assert_eq!(rt; status, Status::Done);
+    let journal = b"journal 4\n1 1.2 5\n2 1.4 5\n3 1.5 9\n4 1.6 9\n".as_slice();
+    assert!(rt; out.bytes().ends_with(journal));
+    Ok(())
+}

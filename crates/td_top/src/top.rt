@@ -2,7 +2,7 @@
 ghost use Rattle.std.specs.Prelude.{◌≡◌, ◌<◌, ◌↔◌, ◌^◌, ◌++◌, ◌∷◌, [], true, false, map, None, IfOk, IfErr, OnOk, IsSome, string_bytes, length};
 ghost use Rattle.td_model.specs.State.{empty_state};
 ghost use Rattle.td_model.specs.Told.{ToldInOrder};
-ghost use Rattle.td_top.specs.Turn.{reply_line_at, as_list};
+ghost use Rattle.td_top.specs.Turn.{TakesMoment, reply_line_at, as_list};
 ghost use Rattle.td_top.specs.Stream.{TookFew};
 ghost use Rattle.td_top.specs.Status.{Tells, is_dir, dir_of, outside, Ended, Says, Completes, writes};
 
@@ -42,8 +42,18 @@ fn push_line(journal: &mut Seq<JournalLine>, line: Option<JournalLine>) -> Resul
     Ok(())
 }
 
-/// Plays the statements of a script in their order, from no table on. The moments are the clock's readings, and don't
-/// fall where these do. The answer is the report, or want of memory for it.
+// The moment of a statement's turn, which isn't before the floor: of a write a reading of the clock, which a query doesn't read.
+fn moment_of<C: Clock>(form: &Form, floor: u64, clock: &mut C) -> u64
+    ensures { TakesMoment form.now (C.readings clock.old) (C.readings clock.new) floor result }
+{
+    match form {
+        Form::MakeTable | Form::Insert { .. } => clock.now().max(floor),
+        Form::Select => floor,
+    }
+}
+
+/// Plays the statements of a script in their order, from no table on. A write reads the clock once, and a query not at all;
+/// the moments are the clock's readings, and don't fall where these do. The answer is the report, or want of memory for it.
 pub fn play_script<C: Clock>(alloc: Global, script: &[Form], clock: &mut C) -> Result<Report, NoMem>
     requires { length script.now < 2 ^ 32 }
     ensures { IfOk result (λ r. ToldInOrder empty_state (C.readings clock.old) script.now r) }
@@ -54,7 +64,7 @@ pub fn play_script<C: Clock>(alloc: Global, script: &[Form], clock: &mut C) -> R
     let mut floor = 0;
     for (i, form) in script.iter().enumerate() {
         let ordinal = i as u32 + 1;
-        let moment = clock.now().max(floor);
+        let moment = moment_of(form, floor, clock);
         floor = moment;
         let turn = tables.turn(ordinal, moment, form);
         push_reply(&mut replies, ordinal, turn.reply)?;
