@@ -15,6 +15,8 @@ mod cells;
 mod journal;
 mod numbers;
 mod replies;
+#[cfg(test)]
+mod tests;
 mod text;
 
 pub use text::report;
