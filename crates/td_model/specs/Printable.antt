@@ -1,7 +1,8 @@
 -- Reports that their texts tell: no two of them have the same text.
-use Rattle.std.specs.Prelude.{◌≡◌, ℕ, ◌<◌, ◌^◌, ℤ, Bool, ◌==◌, ◌&&◌, ◌||◌, not, nat_le, List, length, FitsSigned, IsTrue}
+use Rattle.std.specs.Prelude.{◌≡◌, ℕ, ◌<◌, ◌^◌, Bool, ◌==◌, ◌&&◌, ◌||◌, not, nat_le, List, [], ◌∷◌, length, refl, FitsSigned, IsTrue}
 use Rattle.std.specs.Int.{w128}
 use Rattle.std.specs.List.{list_all, AllByRecursion}
+use lib.Chars.{codes}
 use Rattle.td_layer.specs.declared.values.Cell.{Cell}
 use Rattle.td_layer.specs.declared.values.Cell.TheVariants.{Null, Truth, Num, Frac, Str}
 use Rattle.td_model.specs.declared.report.Cause.{Cause}
@@ -26,11 +27,14 @@ IsWord name = IsTrue (list_all is_word_byte name)
 abbrev pub is_item_byte : ℕ → Bool
 is_item_byte b = nat_le 32 b && not (b == 44)
 
--- An item of a header isn't empty and has no comma and no byte below 32. So it is with names, `AVG(name)`, `COUNT(*)`,
--- `TBNAME` and `_wstart`.
+-- An item of a header isn't empty, and has no comma and no byte below 32.
 pub record IsItem (item : List ℕ) : Type 0 where
   pub some : 0 < length item
   pub bytes : IsTrue (list_all is_item_byte item)
+
+-- so it is with each form of an item
+items : IsTrue (list_all (λ item. list_all is_item_byte item) (codes "voltage" ∷ codes "AVG(voltage)" ∷ codes "COUNT(*)" ∷ codes "TBNAME" ∷ codes "_wstart" ∷ []))
+items = refl
 
 -- Counts, versions, moments and places are below 2 ^ 64, as in a `u64`.
 abbrev pub IsCount : ℕ → Type 0

@@ -8,217 +8,182 @@ fn word(alloc: Global, bytes: &[u8]) -> Result<Name, Fail> {
     Ok(Seq::of_bytes(alloc, bytes)?)
 }
 
-fn list<T: Drop>(alloc: Global, items: Vec<T>) -> Seq<T> {
-    Seq::from_vec(alloc, items)
+fn pair<T: Drop>(alloc: Global, first: T, second: T) -> Result<Seq<T>, Fail> {
+    Ok(Seq::from_vec(alloc, vec![in alloc; first, second]?))
 }
 
-/// A report of these replies alone, by session 1 and rising ordinals from 1.
-fn of_replies(alloc: Global, replies: Vec<Reply>) -> Result<Report, Fail> {
-    let mut lines = Vec::new(alloc);
-    let mut ordinal = 0u32;
-    for reply in replies {
-        ordinal = ordinal.wrapping_add(1);
-        lines.push((1, ordinal, reply))?;
-    }
-    Ok(Report {
+/// The text of a report of one reply.
+fn told(alloc: Global, reply: Reply) -> Result<Seq<u8>, Fail> {
+    let lines = vec![in alloc; (1, 2, reply)]?;
+    let parts = Report {
         base: 0,
-        replies: list(alloc, lines),
+        replies: Seq::from_vec(alloc, lines),
         streams: Seq::new(alloc),
         journal: Seq::new(alloc),
+    };
+    Ok(report(alloc, &parts)?)
+}
+
+/// What stands around the line of the reply.
+fn around(alloc: Global, line: &str) -> Result<Vec<u8>, Fail> {
+    let mut text = Vec::from_slice(alloc, b"base 0\n1.2 ")?;
+    text.extend_from_slice(line.as_bytes())?;
+    text.extend_from_slice(b"\njournal 0\n")?;
+    Ok(text)
+}
+
+/// Two rows of two cells.
+fn answer(alloc: Global, rows: Seq<Seq<Cell>>) -> Result<Reply, Fail> {
+    let header = pair(alloc, word(alloc, b"ts")?, word(alloc, b"AVG(voltage)")?)?;
+    Ok(Reply::Answer {
+        prefix: 4,
+        header,
+        rows,
     })
 }
 
-#[test]
-fn each_reply(rt: HostRuntime) -> Result<(), Fail> {
-    let alloc = rt.alloc();
-    let header = vec![in alloc; word(alloc, b"ts")?, word(alloc, b"AVG(voltage)")?]?;
-    let none = vec![in alloc; word(alloc, b"_wstart")?]?;
-    let first = vec![in alloc; Cell::Null, Cell::Truth(true)]?;
-    let second = vec![in alloc; Cell::Truth(false), Cell::Num(-1)]?;
-    let third = vec![in alloc; Cell::Num(i128::MAX), Cell::Frac { sum: -1, count: 2 }]?;
-    let fourth = vec![in alloc;
-        Cell::Str(word(alloc, b"it's '")?),
-        Cell::Str(word(alloc, b"")?),
-    ]?;
-    let rows = vec![in alloc;
-        list(alloc, first),
-        list(alloc, second),
-        list(alloc, third),
-        list(alloc, fourth),
-    ]?;
-    let replies = vec![in alloc;
-        Reply::Accepted { version: 1 },
-        Reply::AcceptedRows {
-            version: 281_474_976_710_654,
-            rows: 4096
-        },
-        Reply::AcceptedEdge {
-            version: 3,
-            edge: 293_289
-        },
-        Reply::Answer {
-            prefix: 4,
-            header: list(alloc, header),
-            rows: list(alloc, rows)
-        },
-        Reply::Answer {
-            prefix: 0,
-            header: list(alloc, none),
-            rows: Seq::new(alloc)
-        },
-        Reply::Opened { prefix: 5 },
-        Reply::Closed,
-        Reply::Committed { version: 6 },
-        Reply::Nothing,
-        Reply::Stopped { version: 7 },
-        Reply::Merged { count: 8 },
-        Reply::Swept { count: 9 },
-        Reply::Asked,
-        Reply::Refused {
-            prefix: 10,
-            cause: Cause::UnknownTable
-        },
-        Reply::StoreFault,
-        Reply::StoreFaultHalt { halt: 11 },
-        Reply::Damaged { file: 12, at: 13 },
-        Reply::NoMemory,
-    ]?;
-    let text = report(alloc, &of_replies(alloc, replies)?)?;
-    let want = b"base 0
-1.1 accepted 1
-1.2 accepted 281474976710654 rows 4096
-1.3 accepted 3 edge 293289
-1.4 answer 4 rows 4
-ts,AVG(voltage)
-NULL,true
-false,-1
-170141183460469231731687303715884105727,-1/2
-'it''s ''',''
-1.5 answer 0 rows 0
-_wstart
-1.6 opened 5
-1.7 closed
-1.8 committed 6
-1.9 nothing
-1.10 stopped 7
-1.11 merged 8
-1.12 swept 9
-1.13 asked
-1.14 refused 10 UnknownTable
-1.15 store fault
-1.16 store fault halt 11
-1.17 damaged 12 13
-1.18 no memory
-journal 0
-";
-    assert!(rt; text.as_slice() == want.as_slice());
-    Ok(())
+fn numbers(alloc: Global) -> Result<Reply, Fail> {
+    let first = pair(alloc, Cell::Null, Cell::Truth(true))?;
+    let second = pair(alloc, Cell::Num(-1), Cell::Frac { sum: -1, count: 2 })?;
+    answer(alloc, pair(alloc, first, second)?)
+}
+
+fn texts(alloc: Global) -> Result<Reply, Fail> {
+    let first = pair(alloc, Cell::Truth(false), Cell::Num(i128::MAX))?;
+    let quotes = Cell::Str(word(alloc, b"it's '")?);
+    let empty = Cell::Str(word(alloc, b"")?);
+    answer(alloc, pair(alloc, first, pair(alloc, quotes, empty)?)?)
+}
+
+/// A reply, and its line.
+fn reply_at(alloc: Global, k: u8) -> Result<(Reply, &'static str), Fail> {
+    let case = match k {
+        0 => (Reply::Accepted { version: 1 }, "accepted 1"),
+        1 => (
+            Reply::AcceptedRows {
+                version: 281_474_976_710_654,
+                rows: 4096,
+            },
+            "accepted 281474976710654 rows 4096",
+        ),
+        2 => (
+            Reply::AcceptedEdge {
+                version: 3,
+                edge: 293_289,
+            },
+            "accepted 3 edge 293289",
+        ),
+        3 => (
+            numbers(alloc)?,
+            "answer 4 rows 2\nts,AVG(voltage)\nNULL,true\n-1,-1/2",
+        ),
+        4 => (
+            texts(alloc)?,
+            "answer 4 rows 2\nts,AVG(voltage)\nfalse,170141183460469231731687303715884105727\n'it''s ''',''",
+        ),
+        5 => (
+            answer(alloc, Seq::new(alloc))?,
+            "answer 4 rows 0\nts,AVG(voltage)",
+        ),
+        6 => (Reply::Opened { prefix: 5 }, "opened 5"),
+        7 => (Reply::Closed, "closed"),
+        8 => (Reply::Committed { version: 6 }, "committed 6"),
+        9 => (Reply::Nothing, "nothing"),
+        10 => (Reply::Stopped { version: 7 }, "stopped 7"),
+        11 => (Reply::Merged { count: 8 }, "merged 8"),
+        12 => (Reply::Swept { count: 9 }, "swept 9"),
+        13 => (Reply::Asked, "asked"),
+        14 => (Reply::StoreFault, "store fault"),
+        15 => (Reply::StoreFaultHalt { halt: 11 }, "store fault halt 11"),
+        16 => (Reply::Damaged { file: 12, at: 13 }, "damaged 12 13"),
+        _ => (Reply::NoMemory, "no memory"),
+    };
+    Ok(case)
+}
+
+/// A cause, and the line of a refusal for it.
+fn cause_at(alloc: Global, k: u8) -> Result<(Cause, &'static str), Fail> {
+    let case = match k {
+        0 => (Cause::TooLong, "refused 9 TooLong"),
+        1 => (Cause::Syntax { at: 1_048_576 }, "refused 9 Syntax 1048576"),
+        2 => (Cause::NameTooLong, "refused 9 NameTooLong"),
+        3 => (Cause::TypeNotBuilt, "refused 9 TypeNotBuilt"),
+        4 => (Cause::OptionNotBuilt, "refused 9 OptionNotBuilt"),
+        5 => (Cause::Stopped { version: 4 }, "refused 9 Stopped 4"),
+        6 => (
+            Cause::TooManyVersions,
+            "refused 9 TooMany versions 281474976710654",
+        ),
+        7 => (Cause::UnknownTable, "refused 9 UnknownTable"),
+        8 => (Cause::UnknownStable, "refused 9 UnknownStable"),
+        9 => (Cause::UnknownStream, "refused 9 UnknownStream"),
+        10 => (Cause::UnknownCursor, "refused 9 UnknownCursor"),
+        11 => (Cause::TargetOfStream, "refused 9 TargetOfStream"),
+        12 => (Cause::SourceIsTarget, "refused 9 SourceIsTarget"),
+        13 => (Cause::NotAStable, "refused 9 NotAStable"),
+        14 => (Cause::NotATable, "refused 9 NotATable"),
+        15 => (Cause::NeedsTags, "refused 9 NeedsTags"),
+        16 => (Cause::NameTaken, "refused 9 NameTaken"),
+        17 => (Cause::NeedsTime, "refused 9 NeedsTime"),
+        18 => (Cause::UnknownColumn, "refused 9 UnknownColumn"),
+        19 => (Cause::Arity, "refused 9 Arity"),
+        20 => (
+            Cause::TypeMismatch {
+                column: word(alloc, b"phase")?,
+            },
+            "refused 9 TypeMismatch phase",
+        ),
+        21 => (
+            Cause::OutOfRange {
+                column: word(alloc, b"v")?,
+            },
+            "refused 9 OutOfRange v",
+        ),
+        22 => (Cause::BadSelect, "refused 9 BadSelect"),
+        23 => (Cause::BadWindow, "refused 9 BadWindow"),
+        24 => (Cause::BadLimit, "refused 9 BadLimit"),
+        25 => (Cause::BeforeEdge { edge: 7 }, "refused 9 BeforeEdge 7"),
+        _ => return Ok(many_at(k)),
+    };
+    Ok(case)
+}
+
+/// A limit that is passed, and the line of a refusal for it.
+fn many_at(k: u8) -> (Cause, &'static str) {
+    let (what, limit, line) = match k {
+        26 => (Many::Columns, 256, "refused 9 TooMany columns 256"),
+        27 => (Many::Tags, 32, "refused 9 TooMany tags 32"),
+        28 => (Many::Rows, 4096, "refused 9 TooMany rows 4096"),
+        29 => (Many::Tables, 1_048_576, "refused 9 TooMany tables 1048576"),
+        30 => (Many::Streams, 64, "refused 9 TooMany streams 64"),
+        31 => (
+            Many::Numbers,
+            4_294_967_295,
+            "refused 9 TooMany numbers 4294967295",
+        ),
+        _ => (Many::Cursors, 16, "refused 9 TooMany cursors 16"),
+    };
+    (Cause::TooMany { what, limit }, line)
 }
 
 #[test]
-fn each_cause(rt: HostRuntime) -> Result<(), Fail> {
+fn replies_and_causes(rt: HostRuntime) -> Result<(), Fail> {
     let alloc = rt.alloc();
-    // the cause, and its text
-    let table: Vec<(Cause, &[u8])> = vec![in alloc;
-        (Cause::TooLong, b"TooLong".as_slice()),
-        (
-            Cause::Syntax { at: 1_048_576 },
-            b"Syntax 1048576".as_slice()
-        ),
-        (Cause::NameTooLong, b"NameTooLong".as_slice()),
-        (Cause::TypeNotBuilt, b"TypeNotBuilt".as_slice()),
-        (Cause::OptionNotBuilt, b"OptionNotBuilt".as_slice()),
-        (Cause::Stopped { version: 4 }, b"Stopped 4".as_slice()),
-        (
-            Cause::TooManyVersions,
-            b"TooMany versions 281474976710654".as_slice()
-        ),
-        (Cause::UnknownTable, b"UnknownTable".as_slice()),
-        (Cause::UnknownStable, b"UnknownStable".as_slice()),
-        (Cause::UnknownStream, b"UnknownStream".as_slice()),
-        (Cause::UnknownCursor, b"UnknownCursor".as_slice()),
-        (Cause::TargetOfStream, b"TargetOfStream".as_slice()),
-        (Cause::SourceIsTarget, b"SourceIsTarget".as_slice()),
-        (Cause::NotAStable, b"NotAStable".as_slice()),
-        (Cause::NotATable, b"NotATable".as_slice()),
-        (Cause::NeedsTags, b"NeedsTags".as_slice()),
-        (Cause::NameTaken, b"NameTaken".as_slice()),
-        (Cause::NeedsTime, b"NeedsTime".as_slice()),
-        (Cause::UnknownColumn, b"UnknownColumn".as_slice()),
-        (Cause::Arity, b"Arity".as_slice()),
-        (
-            Cause::TypeMismatch {
-                column: word(alloc, b"phase")?
-            },
-            b"TypeMismatch phase".as_slice()
-        ),
-        (
-            Cause::OutOfRange {
-                column: word(alloc, b"v")?
-            },
-            b"OutOfRange v".as_slice()
-        ),
-        (
-            Cause::TooMany {
-                what: Many::Columns,
-                limit: 256
-            },
-            b"TooMany columns 256".as_slice()
-        ),
-        (
-            Cause::TooMany {
-                what: Many::Tags,
-                limit: 32
-            },
-            b"TooMany tags 32".as_slice()
-        ),
-        (
-            Cause::TooMany {
-                what: Many::Rows,
-                limit: 4096
-            },
-            b"TooMany rows 4096".as_slice()
-        ),
-        (
-            Cause::TooMany {
-                what: Many::Tables,
-                limit: 1_048_576
-            },
-            b"TooMany tables 1048576".as_slice()
-        ),
-        (
-            Cause::TooMany {
-                what: Many::Streams,
-                limit: 64
-            },
-            b"TooMany streams 64".as_slice()
-        ),
-        (
-            Cause::TooMany {
-                what: Many::Numbers,
-                limit: 4_294_967_295
-            },
-            b"TooMany numbers 4294967295".as_slice()
-        ),
-        (
-            Cause::TooMany {
-                what: Many::Cursors,
-                limit: 16
-            },
-            b"TooMany cursors 16".as_slice()
-        ),
-        (Cause::BadSelect, b"BadSelect".as_slice()),
-        (Cause::BadWindow, b"BadWindow".as_slice()),
-        (Cause::BadLimit, b"BadLimit".as_slice()),
-        (Cause::BeforeEdge { edge: 7 }, b"BeforeEdge 7".as_slice()),
-    ]?;
-    for (cause, text) in table {
-        let replies = vec![in alloc; Reply::Refused { prefix: 9, cause }]?;
-        let told = report(alloc, &of_replies(alloc, replies)?)?;
-        let mut want = Vec::from_slice(alloc, b"base 0\n1.1 refused 9 ")?;
-        want.extend_from_slice(text)?;
-        want.extend_from_slice(b"\njournal 0\n")?;
-        assert!(rt; told.as_slice() == want.as_slice(), "{text:?}");
+    for k in 0..18 {
+        let (reply, line) = reply_at(alloc, k)?;
+        let text = told(alloc, reply)?;
+        assert!(rt;
+            text.as_slice() == around(alloc, line)?.as_slice(),
+            "{line}"
+        );
+    }
+    for k in 0..33 {
+        let (cause, line) = cause_at(alloc, k)?;
+        let text = told(alloc, Reply::Refused { prefix: 9, cause })?;
+        assert!(rt;
+            text.as_slice() == around(alloc, line)?.as_slice(),
+            "{line}"
+        );
     }
     Ok(())
 }
@@ -251,13 +216,13 @@ fn streams_and_journal(rt: HostRuntime) -> Result<(), Fail> {
         moment: 253_402_300_799_999,
         mark: Mark::Halt,
     };
-    let streams = vec![in alloc; (word(alloc, b"s1")?, 5), (word(alloc, b"s_2")?, 0)]?;
+    let streams = pair(alloc, (word(alloc, b"s1")?, 5), (word(alloc, b"s_2")?, 0))?;
     let journal = vec![in alloc; plain, step, halt]?;
     let parts = Report {
         base: 4,
         replies: Seq::new(alloc),
-        streams: list(alloc, streams),
-        journal: list(alloc, journal),
+        streams,
+        journal: Seq::from_vec(alloc, journal),
     };
     let text = report(alloc, &parts)?;
     let want = b"base 4
