@@ -8,7 +8,11 @@ fn word(alloc: Global, bytes: &[u8]) -> Result<Name, Fail> {
     Ok(Seq::of_bytes(alloc, bytes)?)
 }
 
-fn pair<T: Drop>(alloc: Global, first: T, second: T) -> Result<Seq<T>, Fail> {
+fn cells(alloc: Global, first: Cell, second: Cell) -> Result<Seq<Cell>, Fail> {
+    Ok(Seq::from_vec(alloc, vec![in alloc; first, second]?))
+}
+
+fn rows(alloc: Global, first: Seq<Cell>, second: Seq<Cell>) -> Result<Seq<Seq<Cell>>, Fail> {
     Ok(Seq::from_vec(alloc, vec![in alloc; first, second]?))
 }
 
@@ -32,9 +36,10 @@ fn around(alloc: Global, line: &str) -> Result<Vec<u8>, Fail> {
     Ok(text)
 }
 
-/// Two rows of two cells.
 fn answer(alloc: Global, rows: Seq<Seq<Cell>>) -> Result<Reply, Fail> {
-    let header = pair(alloc, word(alloc, b"ts")?, word(alloc, b"AVG(voltage)")?)?;
+    let first = word(alloc, b"ts")?;
+    let second = word(alloc, b"AVG(voltage)")?;
+    let header = Seq::from_vec(alloc, vec![in alloc; first, second]?);
     Ok(Reply::Answer {
         prefix: 4,
         header,
@@ -43,16 +48,17 @@ fn answer(alloc: Global, rows: Seq<Seq<Cell>>) -> Result<Reply, Fail> {
 }
 
 fn numbers(alloc: Global) -> Result<Reply, Fail> {
-    let first = pair(alloc, Cell::Null, Cell::Truth(true))?;
-    let second = pair(alloc, Cell::Num(-1), Cell::Frac { sum: -1, count: 2 })?;
-    answer(alloc, pair(alloc, first, second)?)
+    let first = cells(alloc, Cell::Null, Cell::Truth(true))?;
+    let second = cells(alloc, Cell::Num(-1), Cell::Frac { sum: -1, count: 2 })?;
+    answer(alloc, rows(alloc, first, second)?)
 }
 
 fn texts(alloc: Global) -> Result<Reply, Fail> {
-    let first = pair(alloc, Cell::Truth(false), Cell::Num(i128::MAX))?;
+    let first = cells(alloc, Cell::Truth(false), Cell::Num(i128::MAX))?;
     let quotes = Cell::Str(word(alloc, b"it's '")?);
     let empty = Cell::Str(word(alloc, b"")?);
-    answer(alloc, pair(alloc, first, pair(alloc, quotes, empty)?)?)
+    let second = cells(alloc, quotes, empty)?;
+    answer(alloc, rows(alloc, first, second)?)
 }
 
 /// A reply, and its line.
@@ -216,12 +222,14 @@ fn streams_and_journal(rt: HostRuntime) -> Result<(), Fail> {
         moment: 253_402_300_799_999,
         mark: Mark::Halt,
     };
-    let streams = pair(alloc, (word(alloc, b"s1")?, 5), (word(alloc, b"s_2")?, 0))?;
+    let first = (word(alloc, b"s1")?, 5);
+    let second = (word(alloc, b"s_2")?, 0);
+    let streams = vec![in alloc; first, second]?;
     let journal = vec![in alloc; plain, step, halt]?;
     let parts = Report {
         base: 4,
         replies: Seq::new(alloc),
-        streams,
+        streams: Seq::from_vec(alloc, streams),
         journal: Seq::from_vec(alloc, journal),
     };
     let text = report(alloc, &parts)?;
