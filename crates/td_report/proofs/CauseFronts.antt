@@ -1,5 +1,5 @@
 -- Causes of refusal in front of a text.
-use Rattle.std.proofs.Common.{◌≡◌, ℕ, ◌<◌, ◌^◌, List, [], ◌∷◌, ◌++◌, decimal, refl, sym, ap, ap₂, ◌∙◌, append_assoc}
+use Rattle.std.proofs.Common.{◌≡◌, ℕ, ◌<◌, ◌^◌, List, [], ◌∷◌, ◌++◌, decimal, refl, sym, ap, ap₂}
 use Rattle.std.proofs.lemmas.List.{append_cancel_left}
 use lib.Chars.{codes}
 use Rattle.td_model.specs.declared.report.Cause.{Cause}
@@ -8,7 +8,7 @@ use Rattle.td_model.specs.declared.report.Many.{Many}
 use Rattle.td_model.specs.declared.report.Many.TheVariants as many
 use Rattle.td_model.specs.Text.{many_text, cause_text}
 use Rattle.td_model.specs.Printable.{IsWord, IsPrintableCause}
-use Rattle.td_report.proofs.Fronts.{tails, regroup, in_3, in_5, apart, distinct, short, number_front, one_number, word_front}
+use Rattle.td_report.proofs.Fronts.{tails, regroup, in_3, in_5, distinct, short, number_front, one_number, word_front}
 
 -- ---- what there are too many of
 

@@ -1,18 +1,17 @@
 -- Cells, rows and headers in front of a text.
-use Rattle.std.proofs.Common.{◌≡◌, ◌≢◌, ℕ, zero, suc, ◌<◌, ◌≤◌, ◌^◌, ℤ, pos, negsuc, Bool, true, false, ◌||◌, ◌==◌, ◌⊎◌, inl, inr, List, [], ◌∷◌, ◌++◌, length, decimal, FitsSigned, refl, sym, ap, ap₂, ◌∙◌, subst, append_assoc, arith}
+use Rattle.std.proofs.Common.{◌≡◌, ◌≢◌, ℕ, suc, ◌<◌, ◌^◌, ℤ, pos, negsuc, Bool, true, false, ◌||◌, ◌==◌, ◌⊎◌, inl, inr, List, [], ◌∷◌, ◌++◌, length, decimal, FitsSigned, refl, sym, ap, ap₂, ◌∙◌, append_assoc, arith}
 use Rattle.std.specs.Fmt.{signed_decimal}
 use Rattle.std.specs.Int.{w128}
-use Rattle.std.specs.List.{flat_map, list_all, AllByRecursion}
+use Rattle.std.specs.List.{flat_map, AllByRecursion}
 use Rattle.std.proofs.lemmas.List.{append_cancel_left}
 use Rattle.std.proofs.lemmas.Bool.Decides.{nat_tests}
 use borrow.Author.Tests.{eqb-true, eq-eqb}
 use lib.Chars.{codes}
-use lib.Signed.{mag}
 use Rattle.td_layer.specs.declared.values.Cell.{Cell}
 use Rattle.td_layer.specs.declared.values.Cell.TheVariants.{Null, Truth, Num, Frac, Str}
-use Rattle.td_model.specs.Text.{quoted_byte, cell_text, more_cell, cells_text, row_line, more_name, names_text}
+use Rattle.td_model.specs.Text.{quoted_byte, cell_text, more_cell, row_line, more_name, names_text}
 use Rattle.td_model.specs.Printable.{IsItem, is_item_byte, IsPrintableCell, IsPrintableRow}
-use Rattle.td_report.proofs.Fronts.{EndsAt, is_digit_byte, IsShort, short, span, clash, heads, tails, regroup, in_3, in_4, apart, distinct, number_front, not_number}
+use Rattle.td_report.proofs.Fronts.{EndsAt, is_digit_byte, IsShort, short, span, clash, heads, tails, regroup, in_3, in_4, distinct, number_front, not_number}
 
 -- a comma or a line feed follows a cell
 abbrev pub IsAfterCell : List ℕ → Type 0

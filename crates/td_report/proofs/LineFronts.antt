@@ -1,5 +1,5 @@
 -- Lines of streams and of the journal, and the whole text.
-use Rattle.std.proofs.Common.{◌≡◌, ℕ, zero, suc, ◌<◌, ◌^◌, ◌==◌, ◌&&◌, if◌then◌else◌, Bool, true, false, ◌⊎◌, inl, inr, List, [], ◌∷◌, ◌++◌, length, decimal, refl, sym, ap, ap₂, ◌∙◌, subst, append_assoc, arith}
+use Rattle.std.proofs.Common.{◌≡◌, ℕ, ◌<◌, ◌^◌, ◌==◌, ◌&&◌, if◌then◌else◌, Bool, true, false, ◌⊎◌, inl, inr, List, [], ◌∷◌, ◌++◌, length, decimal, refl, sym, ap, ap₂, ◌∙◌, arith}
 use Rattle.std.specs.List.{flat_map, AllByRecursion}
 use Rattle.std.proofs.lemmas.List.{append_cancel_left}
 use Rattle.std.proofs.lemmas.Fmt.{decimal_digit}
@@ -12,7 +12,7 @@ use Rattle.td_model.specs.declared.report.Report.{Report}
 use Rattle.td_model.specs.declared.report.Reply.{Reply}
 use Rattle.td_model.specs.Text.{who_text, mark_text, journal_line, stream_line, reply_line, report_text}
 use Rattle.td_model.specs.Printable.{IsPrintableMark, IsPrintableEntry, IsPrintableStream, IsPrintable}
-use Rattle.td_report.proofs.Fronts.{EndsAt, is_digit_byte, short, heads, tails, regroup, in_3, in_4, in_5, in_6, in_7, in_8, apart, distinct, number_front, word_front}
+use Rattle.td_report.proofs.Fronts.{EndsAt, is_digit_byte, short, heads, tails, regroup, in_3, in_4, in_5, in_6, in_8, distinct, number_front, word_front}
 use Rattle.td_report.proofs.ReplyFronts.{lines_front}
 
 -- ---- streams

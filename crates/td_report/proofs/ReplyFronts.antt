@@ -1,5 +1,5 @@
 -- Replies in front of a text.
-use Rattle.std.proofs.Common.{◌≡◌, ℕ, ◌<◌, ◌^◌, Bool, false, List, [], ◌∷◌, ◌++◌, length, decimal, refl, sym, ap, ap₂, ◌∙◌, append_assoc, arith}
+use Rattle.std.proofs.Common.{◌≡◌, ℕ, ◌<◌, ◌^◌, List, [], ◌∷◌, ◌++◌, length, decimal, refl, sym, ap, ap₂}
 use Rattle.std.specs.List.{flat_map, AllByRecursion}
 use Rattle.std.proofs.lemmas.List.{append_cancel_left}
 use lib.Chars.{codes}
@@ -9,7 +9,7 @@ use Rattle.td_model.specs.declared.report.Reply.{Reply}
 use Rattle.td_model.specs.declared.report.Reply.TheVariants as reply
 use Rattle.td_model.specs.Text.{cause_text, names_text, row_line, reply_text, reply_line}
 use Rattle.td_model.specs.Printable.{IsPrintableAnswer, IsPrintableCause, IsPrintableReply, IsPrintableLine}
-use Rattle.td_report.proofs.Fronts.{EndsAt, is_digit_byte, short, heads, tails, regroup, in_3, in_4, in_5, in_6, in_8, apart, distinct, number_front, not_number, one_number, two_numbers}
+use Rattle.td_report.proofs.Fronts.{EndsAt, is_digit_byte, short, tails, regroup, in_3, in_5, in_6, in_8, distinct, number_front, not_number, one_number, two_numbers}
 use Rattle.td_report.proofs.CellFronts.{header_front, rows_front}
 use Rattle.td_report.proofs.CauseFronts.{cause_front}
 
