@@ -57,9 +57,6 @@ in_5 a b c d e = simp append_assoc refl
 pub in_6 : (a b c d e f : List ℕ) → ((((a ++ b) ++ c) ++ d) ++ e) ++ f ≡ a ++ (b ++ (c ++ (d ++ (e ++ f))))
 in_6 a b c d e f = simp append_assoc refl
 
-pub in_7 : (a b c d e f g : List ℕ) → (((((a ++ b) ++ c) ++ d) ++ e) ++ f) ++ g ≡ a ++ (b ++ (c ++ (d ++ (e ++ (f ++ g)))))
-in_7 a b c d e f g = simp append_assoc refl
-
 pub in_8 : (a b c d e f g h : List ℕ) → ((((((a ++ b) ++ c) ++ d) ++ e) ++ f) ++ g) ++ h ≡ a ++ (b ++ (c ++ (d ++ (e ++ (f ++ (g ++ h))))))
 in_8 a b c d e f g h = simp append_assoc refl
 
