@@ -3,6 +3,7 @@ pub mod State
 pub mod Verdict
 pub mod Script
 pub mod Text
+pub mod Printable
 pub mod Times
 pub mod Told
 pub mod Worked

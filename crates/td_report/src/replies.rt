@@ -24,7 +24,13 @@ fn push_one(out: &mut Vec<u8>, words: &[u8], n: u64) -> Result<(), AllocError>
 
 // Two numbers, each behind its words with their spaces, and the end of the line.
 #[tactic(auto, using(std::proofs::lemmas::List::append_assoc))]
-fn push_two(out: &mut Vec<u8>, words: &[u8], n: u64, between: &[u8], m: u64) -> Result<(), AllocError>
+fn push_two(
+    out: &mut Vec<u8>,
+    words: &[u8],
+    n: u64,
+    between: &[u8],
+    m: u64,
+) -> Result<(), AllocError>
     ensures { OnOk result (out.new.items ≡ out.old.items ++ (words.now ++ decimal n ++ between.now ++ decimal m ++ codes "\n")) }
 {
     out.extend_from_slice(words)?;

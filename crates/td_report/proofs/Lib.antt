@@ -1,0 +1,5 @@
+mod Fronts
+mod CellFronts
+mod CauseFronts
+mod ReplyFronts
+mod LineFronts
