@@ -1,5 +1,5 @@
 -- A list beside its spare room.
-use Rattle.std.specs.Prelude.{◌≡◌, ℕ, List, refl}
+use Rattle.std.specs.Prelude.{ℕ, List, refl}
 use Rattle.std.specs.Coded.{Coded, coded_list, coded×, coded_ℕ, code_by}
 
 -- the items, and how many more it takes without further memory

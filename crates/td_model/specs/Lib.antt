@@ -7,3 +7,4 @@ pub mod Printable
 pub mod Times
 pub mod Told
 pub mod Worked
+pub mod Tags

@@ -4,7 +4,7 @@ use Rattle.std.specs.Int.{w128}
 use Rattle.std.specs.List.{list_all, AllByRecursion}
 use lib.Chars.{codes}
 use Rattle.td_layer.specs.declared.values.Cell.{Cell}
-use Rattle.td_layer.specs.declared.values.Cell.TheVariants.{Null, Truth, Num, Frac, Str}
+use Rattle.td_layer.specs.declared.values.Cell.TheVariants.{Num, Frac}
 use Rattle.td_model.specs.declared.report.Cause.{Cause}
 use Rattle.td_model.specs.declared.report.Cause.TheVariants as cause
 use Rattle.td_model.specs.declared.report.Reply.{Reply}

@@ -1,5 +1,5 @@
 -- Which bytes are a script.
-use Rattle.std.specs.Prelude.{◌≡◌, ◌≢◌, ℕ, suc, ◌+◌, ◌-◌, ◌*◌, ◌≤◌, ◌<◌, ℤ, pos, neg_ℤ, Bool, true, false, ◌&&◌, nat_le, List, [], ◌∷◌, ◌++◌, length, IsTrue}
+use Rattle.std.specs.Prelude.{◌≡◌, ◌≢◌, ℕ, ◌+◌, ◌-◌, ◌*◌, ◌≤◌, ℤ, pos, neg_ℤ, Bool, true, ◌&&◌, nat_le, List, [], ◌∷◌, ◌++◌, length, IsTrue}
 use lib.Chars.{codes}
 use Rattle.td_model.specs.declared.forms.Form.{Form}
 use Rattle.td_model.specs.declared.forms.Form.TheVariants as form

@@ -1,5 +1,5 @@
 -- What a statement meets in a state, and what a query answers.
-use Rattle.std.specs.Prelude.{◌≡◌, ℕ, ◌+◌, ℤ, pos, negsuc, Bool, true, false, if◌then◌else◌, ◌==◌, List, [], ◌∷◌, map, Option, Some, None, filter}
+use Rattle.std.specs.Prelude.{ℕ, ℤ, pos, negsuc, if◌then◌else◌, ◌==◌, List, [], ◌∷◌, map, Option, Some, None, filter}
 use lib.Chars.{codes}
 use Rattle.td_cols.specs.declared.kinds.Kind.TheVariants.{I32, Time}
 use Rattle.td_cols.specs.Kinds.{is_in_range}
@@ -13,7 +13,6 @@ use Rattle.td_model.specs.declared.catalog.Column.{Column}
 use Rattle.td_model.specs.declared.forms.Form.{Form}
 use Rattle.td_model.specs.declared.forms.Form.TheVariants as form
 use Rattle.td_model.specs.declared.history.Put.{Put}
-use Rattle.td_model.specs.declared.history.What.{What}
 use Rattle.td_model.specs.declared.history.What.TheVariants as what
 use Rattle.td_model.specs.declared.history.Verdict.{Verdict}
 use Rattle.td_model.specs.declared.history.Verdict.TheVariants.{Accept, Pass, Refuse}

@@ -15,14 +15,13 @@ use Rattle.td_model.specs.declared.forms.Form.{Form}
 use Rattle.td_model.specs.declared.forms.Form.TheVariants as form
 use Rattle.td_model.specs.declared.history.What.TheVariants as what
 use Rattle.td_model.specs.declared.history.Entry.{Entry}
-use Rattle.td_model.specs.declared.history.Verdict.TheVariants.{Accept, Pass, Refuse}
+use Rattle.td_model.specs.declared.history.Verdict.TheVariants.{Refuse}
 use Rattle.td_model.specs.declared.report.Cause.TheVariants.{UnknownTable, NameTaken, OutOfRange}
-use Rattle.td_model.specs.declared.report.Reply.{Reply}
 use Rattle.td_model.specs.declared.report.Reply.TheVariants as reply
 use Rattle.td_model.specs.declared.report.Mark.TheVariants as mark
 use Rattle.td_model.specs.declared.report.JournalLine.{JournalLine}
 use Rattle.td_model.specs.declared.report.Report.{Report}
-use Rattle.td_model.specs.State.{State, empty_state, after}
+use Rattle.td_model.specs.State.{empty_state, after}
 use Rattle.td_model.specs.Verdict.{verdict, answer}
 use Rattle.td_model.specs.Told.{ToldInOrder}
 use Rattle.td_cols.specs.declared.kinds.Kind.TheVariants.{I32, Time}

@@ -1,5 +1,5 @@
 -- What contracts see of the devices in memory, and what their calls do.
-use Rattle.std.specs.Prelude.{◌≡◌, ℕ, ◌+◌, ◌-◌, ◌^◌, length, min, Bool, true, false, if◌then◌else◌, ◌||◌, ◌&&◌, not, ◌==◌, List, Result, is_err, IfOk}
+use Rattle.std.specs.Prelude.{◌≡◌, ℕ, ◌+◌, ◌-◌, ◌^◌, length, min, Bool, if◌then◌else◌, ◌||◌, ◌&&◌, not, ◌==◌, List, Result, is_err, IfOk}
 use Rattle.std.specs.List.{list_any}
 
 -- a source: the bytes that are left, how many it gives at most a call, how many calls there were, which fail, how many failed

@@ -1,10 +1,9 @@
 -- Over a source that tells its bytes, what a status says of them leaves one status alone.
-use Rattle.std.proofs.Common.{◌≡◌, ◌≢◌, ◌⊎◌, inl, inr, ℕ, ◌+◌, ◌≤◌, ◌<◌, List, [], ◌∷◌, ◌++◌, length, Option, Some, None, unwrap_or, refl, sym, ap, ◌∙◌, subst, arith}
+use Rattle.std.proofs.Common.{◌≡◌, inl, inr, ℕ, ◌+◌, ◌≤◌, ◌<◌, List, [], ◌∷◌, ◌++◌, length, Option, Some, None, unwrap_or, refl, sym, ap, ◌∙◌, arith}
 use Rattle.std.proofs.lemmas.List.{append-nil, length-append}
-use Rattle.std.specs.Io.KnownBytes.{Consumes, IsAtEnd}
 use Rattle.td_outside.specs.Causes.{Rose}
 use Rattle.td_model.specs.declared.forms.Form.{Form}
-use Rattle.td_model.specs.Script.{IsStatement, IsScript, none, line, FirstOutside, here, later, NoLine}
+use Rattle.td_model.specs.Script.{IsStatement, IsScript, none, line, FirstOutside, here, later}
 use Rattle.td_top.specs.declared.status.Status.{Status}
 use Rattle.td_top.specs.declared.status.Status.TheVariants as status
 use Rattle.td_top.specs.Parse.{parted_at}

@@ -1,7 +1,6 @@
 -- A run of turns is told by its replies and its journal.
-use Rattle.std.proofs.Common.{◌≡◌, ℕ, zero, suc, ◌+◌, ◌-◌, ◌≤◌, ◌<◌, ◌==◌, Bool, true, false, cond, List, [], ◌∷◌, ◌++◌, length, take, map, Option, Some, None, slice_get, pos, negsuc, ℤ, refl, sym, ap, ◌∙◌, subst, arith}
-use Rattle.std.proofs.lemmas.List.{append_assoc, length-append, take_at, append-nil}
-use Rattle.td_layer.specs.declared.values.Value.TheVariants as value
+use Rattle.std.proofs.Common.{◌≡◌, ℕ, zero, suc, ◌+◌, ◌-◌, ◌≤◌, ◌<◌, true, false, cond, List, [], ◌∷◌, ◌++◌, length, take, Option, Some, None, slice_get, pos, negsuc, ℤ, refl, sym, ap, ◌∙◌, subst, arith}
+use Rattle.std.proofs.lemmas.List.{append_assoc, length-append, take_at}
 use Rattle.td_model.specs.declared.forms.Form.{Form}
 use Rattle.td_model.specs.declared.forms.Form.TheVariants as form
 use Rattle.td_model.specs.declared.history.What.{What}
@@ -10,7 +9,7 @@ use Rattle.td_model.specs.declared.history.Entry.{Entry}
 use Rattle.td_model.specs.declared.history.Verdict.{Verdict}
 use Rattle.td_model.specs.declared.history.Verdict.TheVariants.{Accept, Pass, Refuse}
 use lib.Chars.{codes}
-use Rattle.td_model.specs.declared.report.Cause.TheVariants.{UnknownTable, NameTaken, OutOfRange}
+use Rattle.td_model.specs.declared.report.Cause.TheVariants.{OutOfRange}
 use Rattle.td_model.specs.declared.report.Reply.{Reply}
 use Rattle.td_model.specs.declared.report.Reply.TheVariants as reply
 use Rattle.td_model.specs.declared.report.JournalLine.{JournalLine}
@@ -19,9 +18,9 @@ use Rattle.td_cols.specs.Kinds.{is_in_range}
 use Rattle.td_model.specs.Times.{Timed}
 use Rattle.td_model.specs.State.{State, step, newest, trail, after, at}
 use Rattle.td_model.specs.Catalog.{table_named}
-use Rattle.td_model.proofs.Steps.{step_version, step_moment}
-use Rattle.td_model.specs.Verdict.{table_name, one_put, put_of, make_verdict, insert_verdict, select_verdict, verdict, header, answer}
-use Rattle.td_model.specs.Told.{IsHistory, IsListed, IsPrefix, Answers, EachAnswered, statement_at, entry_of, entry_if, InOrder, NumberIs, front_after, NumberFollows, number_or, NeverFalling, Rising, listed, accepted, with_version, version_of, Told, ToldInOrder}
+use Rattle.td_model.proofs.Steps.{step_version}
+use Rattle.td_model.specs.Verdict.{table_name, one_put, put_of, make_verdict, insert_verdict, select_verdict, verdict, answer}
+use Rattle.td_model.specs.Told.{IsHistory, IsListed, IsPrefix, Answers, EachAnswered, statement_at, entry_of, InOrder, NumberIs, front_after, NumberFollows, number_or, NeverFalling, Rising, listed, accepted, with_version, version_of, ToldInOrder}
 use Rattle.td_top.specs.Turn.{clock_reads, reply_of, accepted_reply, state_then, line_then, as_list, reply_line_at, line_at, entry_at}
 use Rattle.td_top.proofs.Plays.{Plays, Judged}
 

@@ -1,7 +1,7 @@
 -- A turn whose statement was accepted.
-use Rattle.std.proofs.Common.{◌≡◌, ℕ, ◌+◌, Option, Some, None, refl, sym, ap, ◌∙◌, subst}
+use Rattle.std.proofs.Common.{◌≡◌, ℕ, ◌+◌, Some, ap, ◌∙◌}
 use Rattle.td_model.specs.declared.history.Verdict.{Verdict}
-use Rattle.td_model.specs.declared.history.Verdict.TheVariants.{Accept, Pass, Refuse}
+use Rattle.td_model.specs.declared.history.Verdict.TheVariants.{Accept}
 use Rattle.td_model.specs.declared.history.What.{What}
 use Rattle.td_model.specs.declared.report.Reply.{Reply}
 use Rattle.td_model.specs.State.{State, step}

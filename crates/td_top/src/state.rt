@@ -205,11 +205,7 @@ fn alone<T: Drop>(alloc: Global, item: T) -> Result<Seq<T>, NoMem>
 }
 
 // The cells of each row of a table, by timestamp.
-fn rows_of(
-    alloc: Global,
-    rows: &BTreeMap<Key, Row>,
-    table: u32,
-) -> Result<Seq<Seq<Cell>>, NoMem>
+fn rows_of(alloc: Global, rows: &BTreeMap<Key, Row>, table: u32) -> Result<Seq<Seq<Cell>>, NoMem>
     ensures { IfOk result (λ all. all ≡ map cells_of (picked table rows.now.entries)) }
 {
     let mut all = Seq::new(alloc);
@@ -292,12 +288,7 @@ fn over(alloc: Global, cells: &[Option<Value>], values: &[Value]) -> Result<Seq<
 }
 
 // Cells laid over the row of their key, if there is one.
-fn lay(
-    alloc: Global,
-    cells: &[Option<Value>],
-    moment: u64,
-    row: Option<&Row>,
-) -> Result<Row, NoMem>
+fn lay(alloc: Global, cells: &[Option<Value>], moment: u64, row: Option<&Row>) -> Result<Row, NoMem>
     ensures { IfOk result (λ laid. laid ≡ lay cells.now moment (option_copied row.entry)) }
 {
     match row {

@@ -7,6 +7,7 @@ use td_layer::{NoMem, Seq};
 use td_outside::{FreeGate, MemPlace, MemSink, MemSource, MemStore, Ticks};
 
 const MAKE: &str = "1: CREATE TABLE t (ts TIMESTAMP, v INT)\n";
+
 const ALL: &str = "1: SELECT * FROM t\n";
 
 /// How the devices of a run are: the bytes of a call, and the calls that fail.
@@ -29,11 +30,7 @@ fn calls(alloc: Global, call: u64) -> Result<Seq<u64>, NoMem> {
     Ok(Seq::from_vec(alloc, vec![in alloc; call]?))
 }
 
-fn played(
-    alloc: Global,
-    devices: &Devices,
-    script: &[u8],
-) -> Result<(Status, Vec<u8>), NoMem> {
+fn played(alloc: Global, devices: &Devices, script: &[u8]) -> Result<(Status, Vec<u8>), NoMem> {
     let bytes = Seq::of_bytes(alloc, script)?;
     let fails_in = calls(alloc, devices.fails_in)?;
     let mut input = MemSource::new(bytes, devices.most_in.max(1), fails_in);
@@ -48,10 +45,14 @@ fn played(
 #[test]
 fn each_script_has_its_status_and_report(rt: HostRuntime) -> Result<(), Fail> {
     let alloc = rt.alloc();
-    let six = "1: SELECT * FROM t\n1: CREATE TABLE t (ts TIMESTAMP, v INT)\n1: INSERT INTO t VALUES (5, 2147483648)\n1: INSERT INTO t VALUES (5, 7)\n1: CREATE TABLE t (ts TIMESTAMP, v INT)\n1: SELECT * FROM t\n";
-    let told = "base 0\n1.1 refused 0 UnknownTable\n1.2 accepted 1\n1.3 refused 1 OutOfRange v\n1.4 accepted 2 rows 1\n1.5 refused 2 NameTaken\n1.6 answer 2 rows 1\nts,v\n5,7\njournal 2\n1 1.2 2000000000000\n2 1.4 2000000000000\n";
-    let updated = "1: CREATE TABLE t (ts TIMESTAMP, v INT)\n1: INSERT INTO t VALUES (9, 1)\n1: INSERT INTO t VALUES (3, -4)\n1: INSERT INTO t VALUES (9, -2147483648)\n1: INSERT INTO t VALUES (-1, 0)\n1: INSERT INTO t VALUES (253402300799999, 2147483647)\n1: INSERT INTO t VALUES (253402300800000, 0)\n1: SELECT * FROM t\n";
-    let rows = "base 0\n1.1 accepted 1\n1.2 accepted 2 rows 1\n1.3 accepted 3 rows 1\n1.4 accepted 4 rows 1\n1.5 refused 4 OutOfRange ts\n1.6 accepted 5 rows 1\n1.7 refused 5 OutOfRange ts\n1.8 answer 5 rows 3\nts,v\n3,-4\n9,-2147483648\n253402300799999,2147483647\njournal 5\n1 1.1 2000000000000\n2 1.2 2000000000000\n3 1.3 2000000000000\n4 1.4 2000000000000\n5 1.6 2000000000000\n";
+    let six =
+        "1: SELECT * FROM t\n1: CREATE TABLE t (ts TIMESTAMP, v INT)\n1: INSERT INTO t VALUES (5, 2147483648)\n1: INSERT INTO t VALUES (5, 7)\n1: CREATE TABLE t (ts TIMESTAMP, v INT)\n1: SELECT * FROM t\n";
+    let told =
+        "base 0\n1.1 refused 0 UnknownTable\n1.2 accepted 1\n1.3 refused 1 OutOfRange v\n1.4 accepted 2 rows 1\n1.5 refused 2 NameTaken\n1.6 answer 2 rows 1\nts,v\n5,7\njournal 2\n1 1.2 2000000000000\n2 1.4 2000000000000\n";
+    let updated =
+        "1: CREATE TABLE t (ts TIMESTAMP, v INT)\n1: INSERT INTO t VALUES (9, 1)\n1: INSERT INTO t VALUES (3, -4)\n1: INSERT INTO t VALUES (9, -2147483648)\n1: INSERT INTO t VALUES (-1, 0)\n1: INSERT INTO t VALUES (253402300799999, 2147483647)\n1: INSERT INTO t VALUES (253402300800000, 0)\n1: SELECT * FROM t\n";
+    let rows =
+        "base 0\n1.1 accepted 1\n1.2 accepted 2 rows 1\n1.3 accepted 3 rows 1\n1.4 accepted 4 rows 1\n1.5 refused 4 OutOfRange ts\n1.6 accepted 5 rows 1\n1.7 refused 5 OutOfRange ts\n1.8 answer 5 rows 3\nts,v\n3,-4\n9,-2147483648\n253402300799999,2147483647\njournal 5\n1 1.1 2000000000000\n2 1.2 2000000000000\n3 1.3 2000000000000\n4 1.4 2000000000000\n5 1.6 2000000000000\n";
     let table: [(&str, Status, &str); 9] = [
         ("", Status::Done, "base 0\njournal 0\n"),
         (six, Status::Done, told),
@@ -84,7 +85,8 @@ fn a_table_without_rows_answers_its_header(rt: HostRuntime) -> Result<(), Fail> 
     let script = format!(in alloc; "{}{}", MAKE, ALL)?;
     let (found, text) = played(alloc, &STEADY, script.as_bytes())?;
     assert_eq!(rt; found, Status::Done);
-    let report = b"base 0\n1.1 accepted 1\n1.2 answer 1 rows 0\nts,v\njournal 1\n1 1.1 2000000000000\n".as_slice();
+    let report =
+        b"base 0\n1.1 accepted 1\n1.2 answer 1 rows 0\nts,v\njournal 1\n1 1.1 2000000000000\n".as_slice();
     assert_eq!(rt; text.as_slice(), report);
     Ok(())
 }
@@ -122,13 +124,20 @@ fn two_thousand_lines_have_their_rows(rt: HostRuntime) -> Result<(), Fail> {
     replies.push_str("base 0\n1.1 accepted 1\n")?;
     journal.push_str("1 1.1 2000000000000\n")?;
     for i in 2u64..2000 {
-        script.push_str(format!(in alloc; "1: INSERT INTO t VALUES ({}, {})\n", 4000 - i, i)?.as_str())?;
+        script.push_str(format!(in alloc;
+            "1: INSERT INTO t VALUES ({}, {})\n",
+            4000 - i,
+            i
+        )?.as_str())?;
         replies.push_str(format!(in alloc; "1.{i} accepted {i} rows 1\n")?.as_str())?;
         rows.push_str(format!(in alloc; "{},{}\n", 1999 + i, 2001 - i)?.as_str())?;
         journal.push_str(format!(in alloc; "{i} 1.{i} 2000000000000\n")?.as_str())?;
     }
     script.push_str(ALL)?;
-    let report = format!(in alloc; "{}1.2000 answer 1999 rows 1998\nts,v\n{}journal 1999\n{}", replies, rows, journal)?;
+    let report = format!(in alloc;
+        "{}1.2000 answer 1999 rows 1998\nts,v\n{}journal 1999\n{}",
+        replies, rows, journal
+    )?;
     let long = Devices {
         most_in: 1000,
         most_out: 1000,

@@ -14,15 +14,11 @@ use std::alloc::Global;
 use std::sync::Wait;
 use std::thread::Threads;
 use td_layer::{NoMem, Seq};
-use td_model::{JournalLine, Reply, Report, Form};
+use td_model::{Form, JournalLine, Reply, Report};
 use td_outside::{Clock, Failed, Gate, Place, Sink, Source};
 use td_report::report;
 
-fn push_reply(
-    replies: &mut Seq<(u32, u32, Reply)>,
-    ordinal: u32,
-    reply: Reply,
-) -> Result<(), NoMem>
+fn push_reply(replies: &mut Seq<(u32, u32, Reply)>, ordinal: u32, reply: Reply) -> Result<(), NoMem>
     ensures { OnOk result (replies.new ≡ replies.old ++ reply_line_at ordinal reply ∷ []) }
 {
     if replies.push((1, ordinal, reply)).is_err() {

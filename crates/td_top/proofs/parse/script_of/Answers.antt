@@ -1,8 +1,7 @@
 use Rattle.std.proofs.Common.{◌≡◌, ◌≢◌, [], ◌∷◌, ◌++◌, length, arith, sym, refl, ap}
 use Rattle.std.proofs.lemmas.Grind.{common_steps}
 use Rattle.std.proofs.lemmas.Bool.Decides.{nat_tests}
-use Rattle.std.proofs.lemmas.List.{append-nil, length_push}
-use Rattle.td_model.specs.Script.{IsScript, none}
+use Rattle.std.proofs.lemmas.List.{length_push}
 use Rattle.td_top.proofs.Grammar.{line_found, script_more, fault_more, shorter, fault_here, nothing_left}
 use Rattle.td_top.proofs.parse.script_of.Goals as goal
 

@@ -1,4 +1,4 @@
-use Rattle.std.proofs.Common.{◌≡◌, ◌+◌, ◌≤◌, ◌<◌, ◌^◌, ℕ, List, ◌++◌, length}
+use Rattle.std.proofs.Common.{◌+◌, ◌≤◌, ℕ, List, ◌++◌, length}
 use Rattle.td_model.specs.declared.forms.Form.{Form}
 use Rattle.td_model.specs.Script.{IsScript, FirstOutside}
 use Rattle.td_top.proofs.parse.script_of.Given as goal

@@ -1,5 +1,4 @@
 use Rattle.std.proofs.Common.{arith, ◌∙◌}
-use Rattle.std.proofs.lemmas.Grind.{common_steps}
 use Rattle.std.proofs.lemmas.List.{length-drop, length-take}
 use Rattle.td_top.proofs.Streams.{wrote_more}
 use Rattle.td_top.proofs.stream.write_all.Goals as goal

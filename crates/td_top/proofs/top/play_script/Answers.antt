@@ -1,7 +1,7 @@
-use Rattle.std.proofs.Common.{◌≡◌, ◌≤◌, ◌+◌, ◌++◌, ℕ, List, ap, sym, subst, take, get_or, arith, ◌∙◌}
+use Rattle.std.proofs.Common.{◌≤◌, ℕ, List, ap, sym, subst, take, get_or, arith}
 use Rattle.td_model.specs.declared.forms.Form.TheVariants.{MakeTable}
 use Rattle.td_model.specs.State.{State, empty_state}
-use Rattle.td_top.specs.Turn.{clock_reads, reads}
+use Rattle.td_top.specs.Turn.{reads}
 use Rattle.td_top.proofs.Plays.{plays_next, nothing_played, reads_next}
 use Rattle.std.proofs.lemmas.List.{take_all}
 use Rattle.td_top.proofs.Clocks.{MomentIs, Taken, turn_taken, left_first, moment_first, times}
@@ -20,7 +20,7 @@ loop-i-preserved g c =
     let turn = turn_taken q readings (reads (take i script)) (g.C.Clock.readings c.loop-i.clock) (g.C.Clock.readings c.moment_of-moment.new.clock) c.loop-i.floor m c.loop-i.invariant.taken c.moment_of-moment.ensures in
     let early : t.moment ≤ m = omega (arith, c.loop-i.invariant.floor, turn.later) in
     let left = plays_next (MomentIs readings) script i m MakeTable empty_state t c.turn-turn.new.self c.loop-i.replies c.push_reply.new.replies c.loop-i.journal c.push_line.new.journal c.turn-turn.result.line c.turn-turn.result.reply
-        c.loop-i.invariant.played c.loop-i-test.true early turn.taken.moment c.in_ok-push_reply.ensures c.in_ok-push_line.ensures c.turn-turn.ensures in
+    c.loop-i.invariant.played c.loop-i-test.true early turn.taken.moment c.in_ok-push_reply.ensures c.in_ok-push_line.ensures c.turn-turn.ensures in
     record {
       played = left.played;
       taken = subst (λ n. Taken readings n (g.C.Clock.readings c.moment_of-moment.new.clock) m) (sym (reads_next script i MakeTable c.loop-i-test.true)) turn.taken;
