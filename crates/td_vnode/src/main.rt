@@ -7,14 +7,16 @@ mod devices;
 
 use crate::devices::{StandardInput, StandardOutput, SystemClock};
 use std::env;
+use std::io::{self, ErrorKind};
 use std::process::ExitCode;
 use td_outside::{FreeGate, MemPlace, MemStore};
 use td_top::{Status, vnode};
 
 fn main(rt: HostRuntime) -> ExitCode {
     let mut words = Vec::new(rt.alloc());
-    let Ok(args) = env::args(&rt) else {
-        return ended(&rt, Status::Usage);
+    let args = match env::args(&rt) {
+        Ok(args) => args,
+        Err(error) => return ended(&rt, unread_words(&error)),
     };
     for word in args.skip(1) {
         if words.push(word).is_err() {
@@ -39,6 +41,14 @@ fn main(rt: HostRuntime) -> ExitCode {
         &FreeGate,
     );
     ended(&rt, status)
+}
+
+// The status where the words can't be read: for want of memory, or since one isn't text.
+fn unread_words(error: &io::Error) -> Status {
+    match error.kind() {
+        ErrorKind::OutOfMemory => Status::NoMemory,
+        _ => Status::Usage,
+    }
 }
 
 // Prints the line of a status, if it has one, and gives its exit number.
