@@ -1,2 +1,4 @@
 pub mod Names
 pub mod Found
+pub mod Growth
+pub mod Fewer
