@@ -2,3 +2,4 @@ pub mod Names
 pub mod Found
 pub mod Growth
 pub mod Fewer
+pub mod After

@@ -11,6 +11,8 @@
 mod catalog;
 mod change;
 mod steps;
+#[cfg(test)]
+mod tests;
 
 pub use catalog::Catalog;
 pub use change::Change;

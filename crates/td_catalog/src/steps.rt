@@ -1,6 +1,8 @@
 //! The two steps of a change: what takes memory, and what then takes none.
 ghost use Rattle.std.specs.Prelude.{◌≡◌, ◌<◌, ◌≤◌, ◌+◌, ◌^◌, length, [], ◌∷◌, ◌++◌, ℕ, None, OnOk, IfOk, filter, not, ◌==◌};
 ghost use Rattle.td_model.specs.declared.history.What.{What};
+ghost use Rattle.td_model.specs.declared.history.Entry.{Entry};
+ghost use Rattle.td_model.specs.State.{State, step};
 ghost use Rattle.td_model.specs.declared.history.What.TheVariants as what;
 ghost use Rattle.td_model.specs.Catalog.{stable_named, table_named, stream_named, target_named, with_what};
 ghost use Rattle.td_catalog.specs.Kept.{CanFollow, HasRoom, IsReadyFor, change_of, changed};
@@ -31,6 +33,7 @@ impl Catalog {
         requires { IsReadyFor change self.old }
         ensures changed { self.new.catalog ≡ changed change self.old.catalog }
         ensures entry { (what : What) → change ≡ change_of what → self.new.catalog ≡ with_what what self.old.catalog }
+        ensures after { (s : State) (e : Entry) → s.catalog ≡ self.old.catalog → change ≡ change_of e.what → self.new.catalog ≡ (step s e).catalog }
     {
         let Change { part } = change;
         match part {

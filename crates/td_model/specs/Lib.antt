@@ -1,4 +1,5 @@
 pub mod Catalog
+pub mod Tags
 pub mod State
 pub mod Verdict
 pub mod Script

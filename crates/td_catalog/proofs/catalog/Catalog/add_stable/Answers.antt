@@ -12,7 +12,7 @@ use Rattle.td_catalog.proofs.catalog.Catalog.add_stable.Goals as goal
 last : (c : goal.Joined-unwrap) → c.insert.new.self.entries ≡ c.self.inside.stables.entries ++ (c.args.key, c.args.def) ∷ []
 last c =
     appended (λ x y. bytes_eq x.items y.items) c.self.inside.stables c.insert.new.self c.args.key c.args.def c.insert.result c.unwrap.result c.unwrap.ensures c.insert.ensures.entries
-        (stable-absent c.self.inside c.self.invariant c.args.def.name c.args.key.items c.requires.key (ap (λ k. stable_named c.args.def.name k.catalog) c.self.view_is ∙ c.requires.free))
+    (stable-absent c.self.inside c.self.invariant c.args.def.name c.args.key.items c.requires.key (ap (λ k. stable_named c.args.def.name k.catalog) c.self.view_is ∙ c.requires.free))
 
 values_last : (c : goal.Joined-unwrap) → values c.insert.new.self ≡ values c.self.inside.stables ++ c.args.def ∷ []
 values_last c = values-pushed c.self.inside.stables.entries c.insert.new.self.entries c.args.key c.args.def (last c)

@@ -13,7 +13,7 @@ use Rattle.td_catalog.proofs.catalog.Catalog.add_table.Goals as goal
 last : (c : goal.Joined-unwrap) → c.insert.new.self.entries ≡ c.self.inside.tables.entries ++ (c.args.key, c.args.table) ∷ []
 last c =
     appended (λ x y. bytes_eq x.items y.items) c.self.inside.tables c.insert.new.self c.args.key c.args.table c.insert.result c.unwrap.result c.unwrap.ensures c.insert.ensures.entries
-        (table-absent c.self.inside c.self.invariant c.args.table.name c.args.key.items c.requires.key (ap (λ k. table_named c.args.table.name k.catalog) c.self.view_is ∙ c.requires.free))
+    (table-absent c.self.inside c.self.invariant c.args.table.name c.args.key.items c.requires.key (ap (λ k. table_named c.args.table.name k.catalog) c.self.view_is ∙ c.requires.free))
 
 values_last : (c : goal.Joined-unwrap) → values c.insert.new.self ≡ values c.self.inside.tables ++ c.args.table ∷ []
 values_last c = values-pushed c.self.inside.tables.entries c.insert.new.self.entries c.args.key c.args.table (last c)

@@ -1,0 +1,4 @@
+pub mod Indexed
+pub mod Order
+pub mod Slots
+pub mod Inside
