@@ -5,8 +5,8 @@ ghost use Rattle.td_catalog.specs.Kept.{IsFree, CanFollow};
 use crate::Catalog;
 use std::alloc::Global;
 use std::test::Fail;
-use td_layer::{Cell, Name, NoMem, Seq};
-use td_model::{Column, Entry, Kind, OrderBy, Query, Schema, StreamDef, Trigger, What, WindowDef};
+use td_layer::{Name, NoMem, Seq};
+use td_model::{Entry, OrderBy, Query, Schema, StreamDef, Trigger, What, WindowDef};
 
 // No table, supertable or target has the name.
 fn is_free(catalog: &Catalog, name: &Name) -> bool

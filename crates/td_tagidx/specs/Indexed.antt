@@ -1,5 +1,5 @@
 -- What an index stands for: subtables with their tags, in number order, beside the room for more.
-use Rattle.std.specs.Prelude.{◌≡◌, ◌<◌, ◌≤◌, ℕ, List, length, Option, None}
+use Rattle.std.specs.Prelude.{◌≡◌, ◌<◌, ℕ, List, None}
 use Rattle.std.specs.Ordering.{nat_cmp}
 use Rattle.std.specs.Map.{lookup}
 use Rattle.std.specs.BTreeMap.{insert_entry, is_at}
@@ -9,11 +9,10 @@ use Rattle.td_layer.specs.declared.values.Cell.{Cell}
 abbrev pub Subtables : Type 0
 Subtables = List (ℕ × List Cell)
 
--- the subtables, and how many more subtables and tags the index takes without further memory
+-- the subtables, and how many more the index takes without further memory
 pub record Indexed : Type 0 where
   pub subtables : Subtables
-  pub table_room : ℕ
-  pub tag_room : ℕ
+  pub room : ℕ
 
 -- no subtable has the number
 abbrev pub IsAbsent : ℕ → Subtables → Type 0
@@ -26,5 +25,4 @@ with_subtable change subtables = insert_entry nat_cmp subtables change.0 change.
 -- a change may be made, and takes no memory: its table isn't in the index, which has room for it
 pub record IsReadyFor (change : ℕ × List Cell) (index : Indexed) : Type 0 where
   pub absent : IsAbsent change.0 index.subtables
-  pub table_room : 0 < index.table_room
-  pub tag_room : length change.1 ≤ index.tag_room
+  pub room : 0 < index.room

@@ -1,4 +1,3 @@
 pub mod Indexed
-pub mod Order
-pub mod Slots
+pub mod Subtables
 pub mod Inside

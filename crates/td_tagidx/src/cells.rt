@@ -3,11 +3,10 @@ ghost use Rattle.std.specs.Prelude.{◌≡◌, false};
 ghost use Rattle.std.specs.Option.{option_map_or, option_copied};
 ghost use Rattle.std.specs.Ordering.{nat_cmp};
 ghost use Rattle.std.specs.Cmp.Lexicographic.{slice_cmp};
-ghost use Rattle.td_model.specs.Tags.{number_of, text_of, is_null, order_of, passes, compares, cell_matches};
-ghost use Rattle.td_tagidx.specs.Order.{rank, number, text, cell_cmp};
+ghost use Rattle.td_model.specs.Tags.{number_of, text_of, is_null, order_of, passes, compares, cell_matches, tag_matches};
 
 use std::cmp::Ordering;
-use td_layer::Cell;
+use td_layer::{Cell, Seq};
 use td_model::Op;
 
 // The number that a cell counts as.
@@ -75,7 +74,7 @@ fn compares(op: Op, a: &Cell, b: &Cell) -> bool
 }
 
 // Whether a cell passes a comparison with another.
-pub(crate) fn cell_matches(op: Op, a: &Cell, b: &Cell) -> bool
+fn cell_matches(op: Op, a: &Cell, b: &Cell) -> bool
     ensures { result ≡ cell_matches op a.now b.now }
 {
     match op {
@@ -85,45 +84,12 @@ pub(crate) fn cell_matches(op: Op, a: &Cell, b: &Cell) -> bool
     }
 }
 
-fn rank(cell: &Cell) -> u8
-    ensures { result ≡ rank cell.now }
+// Whether there is a tag at a place, and it passes a comparison.
+pub(crate) fn tag_matches(tags: &Seq<Cell>, tag: usize, op: Op, lit: &Cell) -> bool
+    ensures { result ≡ tag_matches tag op lit.now tags.now }
 {
-    match cell {
-        Cell::Null => 0,
-        Cell::Truth(_) | Cell::Num(_) => 1,
-        Cell::Str(_) => 2,
-        Cell::Frac { .. } => 3,
-    }
-}
-
-fn number(cell: &Cell) -> i128
-    ensures { result ≡ number cell.now }
-{
-    match cell {
-        Cell::Truth(true) => 1,
-        Cell::Num(n) => *n,
-        Cell::Truth(false) | Cell::Null | Cell::Frac { .. } | Cell::Str(_) => 0,
-    }
-}
-
-fn text(cell: &Cell) -> &[u8]
-    ensures { result.now ≡ text cell.now }
-{
-    match cell {
-        Cell::Str(text) => text.as_slice(),
-        Cell::Null | Cell::Truth(_) | Cell::Num(_) | Cell::Frac { .. } => &[],
-    }
-}
-
-// The order of two cells in an index.
-pub(crate) fn cell_order(a: &Cell, b: &Cell) -> Ordering
-    ensures { result ≡ cell_cmp a.now b.now }
-{
-    match rank(a).cmp(&rank(b)) {
-        Ordering::Equal => match number(a).cmp(&number(b)) {
-            Ordering::Equal => text(a).cmp(&text(b)),
-            unlike => unlike,
-        },
-        unlike => unlike,
+    match tags.get(tag) {
+        None => false,
+        Some(cell) => cell_matches(op, cell, lit),
     }
 }
