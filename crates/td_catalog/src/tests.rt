@@ -4,6 +4,7 @@ ghost use Rattle.td_catalog.specs.Kept.{IsFree, CanFollow};
 
 use crate::Catalog;
 use std::alloc::Global;
+use std::process::Abort;
 use std::test::Fail;
 use td_layer::{Name, NoMem, Seq};
 use td_model::{Entry, OrderBy, Query, Schema, StreamDef, Trigger, What, WindowDef};
@@ -40,33 +41,23 @@ fn can_follow(catalog: &Catalog, what: &What) -> bool
 }
 
 // Takes an entry, and says whether it might come next.
-fn take(catalog: &mut Catalog, what: What) -> Result<bool, NoMem> {
-    if !can_follow(catalog, &what) {
+fn take(catalog: &mut Catalog, entry: &Entry) -> Result<bool, NoMem> {
+    if !can_follow(catalog, &entry.what) {
         return Ok(false);
     }
-    let entry = Entry {
-        session: 1,
-        ordinal: 1,
-        moment: 0,
-        what,
-    };
-    let change = catalog.prepare(&entry)?;
+    let change = catalog.prepare(entry)?;
     catalog.apply(change);
     Ok(true)
 }
 
-fn named(alloc: Global, text: &str) -> Result<Name, NoMem> {
-    Seq::of_bytes(alloc, text.as_bytes())
-}
-
-fn stream(alloc: Global, name: Name, target: Name) -> StreamDef {
+fn stream(alloc: Global, name: Name) -> StreamDef {
     StreamDef {
         name,
         trigger: Trigger::AtOnce,
         watermark: 0,
         ignore_expired: false,
         fill_history: true,
-        target,
+        target: Seq::new(alloc),
         query: Query {
             star: true,
             items: Seq::new(alloc),
@@ -81,79 +72,87 @@ fn stream(alloc: Global, name: Name, target: Name) -> StreamDef {
     }
 }
 
-fn stable(alloc: Global, name: Name) -> What {
-    let schema = Schema {
-        columns: Seq::new(alloc),
-        tags: Seq::new(alloc),
-    };
-    What::MakeStable { name, schema }
+// What is made of a name, and the drop of the first stream.
+#[derive(Clone, Copy)]
+enum Kind {
+    Stable,
+    Plain,
+    Sub,
+    Stream,
+    Drop,
 }
 
-// What is made of a name: a supertable (0), a plain table (1), a subtable of a supertable (2), a stream (3).
-fn what_of(alloc: Global, kind: u8, name: Name, stable_number: u32) -> What {
-    match kind {
-        0 => stable(alloc, name),
-        1 => What::MakeTable {
+fn entry_of(alloc: Global, kind: Kind, name: Name) -> Entry {
+    let what = match kind {
+        Kind::Stable => What::MakeStable {
+            name,
+            schema: Schema {
+                columns: Seq::new(alloc),
+                tags: Seq::new(alloc),
+            },
+        },
+        Kind::Plain => What::MakeTable {
             name,
             columns: Seq::new(alloc),
         },
-        2 => What::MakeSub {
+        Kind::Sub => What::MakeSub {
             name,
-            stable: stable_number,
+            stable: 1,
             tags: Seq::new(alloc),
         },
-        _ => What::MakeStream(stream(alloc, name, Seq::new(alloc))),
+        Kind::Stream => What::MakeStream(stream(alloc, name)),
+        Kind::Drop => What::DropStream(1),
+    };
+    Entry {
+        session: 1,
+        ordinal: 1,
+        moment: 0,
+        what,
     }
 }
 
-fn make(catalog: &mut Catalog, alloc: Global, kind: u8, text: &str) -> Result<bool, NoMem> {
-    let name = named(alloc, text)?;
-    let came = take(catalog, what_of(alloc, kind, name, 1))?;
-    Ok(came)
+fn make(catalog: &mut Catalog, alloc: Global, kind: Kind, text: &str) -> Result<bool, NoMem> {
+    let name = Seq::of_bytes(alloc, text.as_bytes())?;
+    let entry = entry_of(alloc, kind, name);
+    take(catalog, &entry)
 }
 
-// The number that a table of a name is found by.
-fn table(catalog: &Catalog, alloc: Global, text: &str) -> Result<Option<u32>, NoMem> {
-    let name = named(alloc, text)?;
-    Ok(catalog.find_table(&name))
+// The number of the table of a name, or 0.
+fn table(catalog: &Catalog, alloc: Global, text: &str) -> Result<u32, NoMem> {
+    let name = Seq::of_bytes(alloc, text.as_bytes())?;
+    Ok(catalog.find_table(&name).unwrap_or(0))
 }
 
-#[test]
-fn tables_are_numbered_as_they_are_made(rt: HostRuntime) -> Result<(), Fail> {
-    let alloc = rt.alloc();
-    let mut catalog = Catalog::empty(alloc);
-    // kind, name, whether it may be made, and the table that is then found
-    let steps = [
-        (2, "d1001", false, None),
-        (0, "meters", true, None),
-        (2, "d1001", true, Some(1)),
-        (1, "t", true, Some(2)),
-        (2, "d1002", true, Some(3)),
-        (1, "meters", false, None),
-        (3, "t", true, Some(2)),
-        (3, "u", false, None),
-    ];
-    for (kind, name, may, number) in steps {
-        let came = make(&mut catalog, alloc, kind, name)?;
-        let found = table(&catalog, alloc, name)?;
-        assert!(rt; came == may && found == number, "{name}");
+// What is made, whether it may be, and the number of the table that its name then finds, or 0.
+const STEPS: [(Kind, &str, bool, u32); 9] = [
+    (Kind::Sub, "d1001", false, 0),
+    (Kind::Stable, "meters", true, 0),
+    (Kind::Sub, "d1001", true, 1),
+    (Kind::Plain, "t", true, 2),
+    (Kind::Sub, "d1002", true, 3),
+    (Kind::Plain, "meters", false, 0),
+    (Kind::Stream, "t", true, 2),
+    (Kind::Drop, "t", true, 2),
+    (Kind::Stream, "u", true, 0),
+];
+
+fn fill(rt: &impl Abort, catalog: &mut Catalog, alloc: Global) -> Result<(), NoMem> {
+    for (kind, name, may, number) in &STEPS {
+        let came = make(catalog, alloc, *kind, name)?;
+        assert!(rt; came == *may);
+        let found = table(catalog, alloc, name)?;
+        assert!(rt; found == *number);
     }
-    assert!(rt; catalog.stables() == 1 && catalog.tables() == 3 && catalog.streams() == 1);
-    assert!(rt; catalog.name_of(3).as_slice() == b"d1002".as_slice());
-    assert!(rt; catalog.parent_of(2).is_none() && catalog.parent_of(3) == Some(1));
     Ok(())
 }
 
 #[test]
-fn a_dropped_stream_frees_its_names(rt: HostRuntime) -> Result<(), Fail> {
-    let alloc = rt.alloc();
-    let mut catalog = Catalog::empty(alloc);
-    let made = make(&mut catalog, alloc, 3, "s")?;
-    let dropped = take(&mut catalog, What::DropStream(1))?;
-    assert!(rt; made && dropped && catalog.streams() == 0 && catalog.next_stream() == 2);
-    catalog.skip_to(9);
-    let again = make(&mut catalog, alloc, 3, "s")?;
-    let name = named(alloc, "s")?;
-    assert!(rt; again && catalog.find_stream(&name) == Some(9));
+fn names_are_found_once_they_are_made(rt: HostRuntime) -> Result<(), Fail> {
+    let mut catalog = Catalog::empty(rt.alloc());
+    fill(&rt, &mut catalog, rt.alloc())?;
+    assert!(rt; catalog.stables() == 1 && catalog.tables() == 3 && catalog.streams() == 1);
+    assert!(rt; catalog.name_of(3).as_slice() == b"d1002".as_slice());
+    assert!(rt; catalog.parent_of(2).is_none() && catalog.parent_of(3) == Some(1));
+    assert!(rt; catalog.stream_at(0).0 == 2 && catalog.next_stream() == 3);
     Ok(())
 }

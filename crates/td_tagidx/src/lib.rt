@@ -10,5 +10,7 @@
 
 mod cells;
 mod index;
+#[cfg(test)]
+mod tests;
 
 pub use index::{TagChange, TagIndex};

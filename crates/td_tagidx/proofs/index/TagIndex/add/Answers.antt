@@ -17,9 +17,9 @@ parts c =
     let xs : List Subtable = c.self.inside.subtables.items in
     let table : ℕ = c.change.inside.subtable.table in
     subst (λ zs. IsPartitionPoint (λ s. ltb s.table table ≡ true) (λ s. ltb s.table table ≡ false) zs c.partition_point-at.result) c.deref.ensures.value
-        (IsPartitionPoint-from_clause (λ s. ltb s.table table) c.deref.result.now c.partition_point-at.result c.partition_point-at.ensures.partitioned
-            (IsPartitionedBy-ltb (λ s. s.table) c.deref.result.now table (IsNonDecreasingBy-from_sort (λ s. s.table) c.deref.result.now (rw c.deref.ensures.value c.self.invariant)))
-            (λ a r q k. search rules))
+    (IsPartitionPoint-from_clause (λ s. ltb s.table table) c.deref.result.now c.partition_point-at.result c.partition_point-at.ensures.partitioned
+    (IsPartitionedBy-ltb (λ s. s.table) c.deref.result.now table (IsNonDecreasingBy-from_sort (λ s. s.table) c.deref.result.now (rw c.deref.ensures.value c.self.invariant)))
+    (λ a r q k. search rules))
 
 within : (c : goal.After-unwrap) → c.partition_point-at.result ≤ length c.self.inside.subtables.items
 within c = subst (λ (zs : List Subtable). c.partition_point-at.result ≤ length zs) c.deref.ensures.value c.partition_point-at.ensures.bound
@@ -38,11 +38,11 @@ invariant_of-self c =
     let ok : is_ok c.insert.result ≡ true = ap is_ok c.unwrap.ensures in
     let long : length ys ≡ length xs + 1 = ap length (put_in c) ∙ length-insert xs i s (within c) in
     sorted-inserted (λ a b. is_lt (nat_cmp a.table b.table)) xs ys i s c.self.invariant (within c) long
-        (λ k d h. ap is_lt (cmp_above (get_or xs k d).table s.table ((parts c).0 k d (omega arith) h)))
-        (λ k d low h. not_less (get_or xs k d).table s.table ((parts c).1 k d low h))
-        (λ d. c.insert.ensures.by_index.0 d ok)
-        (λ k d h. c.insert.ensures.by_index.1 k d h)
-        (λ k d h. c.insert.ensures.by_index.2 k d ok h)
+    (λ k d h. ap is_lt (cmp_above (get_or xs k d).table s.table ((parts c).0 k d (omega arith) h)))
+    (λ k d low h. not_less (get_or xs k d).table s.table ((parts c).1 k d low h))
+    (λ d. c.insert.ensures.by_index.0 d ok)
+    (λ k d h. c.insert.ensures.by_index.1 k d h)
+    (λ k d h. c.insert.ensures.by_index.2 k d ok h)
 
 pub returns : goal.returns
 returns c =
