@@ -37,7 +37,8 @@ fn played(alloc: Global, devices: &Devices, script: &[u8]) -> Result<(Status, Ve
     let fails_out = calls(alloc, devices.fails_out)?;
     let mut out = MemSink::new(alloc, 131072, devices.most_out.max(1), fails_out)?;
     let mut place = MemPlace::new(MemStore);
-    let clock = Ticks::new(calls(alloc, 2000000000000)?);
+    let readings = Seq::from_vec(alloc, vec![in alloc; 2000000000000]?);
+    let clock = Ticks::new(readings);
     let status = play(alloc, b"d", &mut input, &mut out, &mut place, clock);
     Ok((status, Vec::from_slice(alloc, out.bytes())?))
 }
@@ -113,37 +114,67 @@ fn a_failing_device_gives_its_fault(rt: HostRuntime) -> Result<(), Fail> {
     Ok(())
 }
 
+/// A long script, and the parts of its report.
+#[derive(Drop)]
+struct Long {
+    script: String,
+    replies: String,
+    rows: String,
+    journal: String,
+}
+
+fn add_line(alloc: Global, long: &mut Long, i: u64) -> Result<(), Fail> {
+    let line = format!(in alloc;
+        "1: INSERT INTO t VALUES ({}, {i})\n",
+        4000u64.saturating_sub(i)
+    )?;
+    long.script.push_str(line.as_str())?;
+    let reply = format!(in alloc; "1.{i} accepted {i} rows 1\n")?;
+    long.replies.push_str(reply.as_str())?;
+    Ok(())
+}
+
+fn add_report(alloc: Global, long: &mut Long, i: u64) -> Result<(), Fail> {
+    let row = format!(in alloc;
+        "{},{}\n",
+        i.saturating_add(1999),
+        2001u64.saturating_sub(i)
+    )?;
+    long.rows.push_str(row.as_str())?;
+    let line = format!(in alloc; "{i} 1.{i} 2000000000000\n")?;
+    long.journal.push_str(line.as_str())?;
+    Ok(())
+}
+
+fn long_script(alloc: Global) -> Result<Long, Fail> {
+    let mut long = Long {
+        script: String::from_str(alloc, MAKE)?,
+        replies: String::from_str(alloc, "base 0\n1.1 accepted 1\n")?,
+        rows: String::new(alloc),
+        journal: String::from_str(alloc, "1 1.1 2000000000000\n")?,
+    };
+    for i in 2u64..2000 {
+        add_line(alloc, &mut long, i)?;
+        add_report(alloc, &mut long, i)?;
+    }
+    long.script.push_str(ALL)?;
+    Ok(long)
+}
+
 #[test]
 fn two_thousand_lines_have_their_rows(rt: HostRuntime) -> Result<(), Fail> {
     let alloc = rt.alloc();
-    let mut script = String::new(alloc);
-    let mut replies = String::new(alloc);
-    let mut rows = String::new(alloc);
-    let mut journal = String::new(alloc);
-    script.push_str(MAKE)?;
-    replies.push_str("base 0\n1.1 accepted 1\n")?;
-    journal.push_str("1 1.1 2000000000000\n")?;
-    for i in 2u64..2000 {
-        script.push_str(format!(in alloc;
-            "1: INSERT INTO t VALUES ({}, {})\n",
-            4000 - i,
-            i
-        )?.as_str())?;
-        replies.push_str(format!(in alloc; "1.{i} accepted {i} rows 1\n")?.as_str())?;
-        rows.push_str(format!(in alloc; "{},{}\n", 1999 + i, 2001 - i)?.as_str())?;
-        journal.push_str(format!(in alloc; "{i} 1.{i} 2000000000000\n")?.as_str())?;
-    }
-    script.push_str(ALL)?;
+    let long = long_script(alloc)?;
     let report = format!(in alloc;
         "{}1.2000 answer 1999 rows 1998\nts,v\n{}journal 1999\n{}",
-        replies, rows, journal
+        long.replies, long.rows, long.journal
     )?;
-    let long = Devices {
+    let devices = Devices {
         most_in: 1000,
         most_out: 1000,
         ..STEADY
     };
-    let (found, text) = played(alloc, &long, script.as_bytes())?;
+    let (found, text) = played(alloc, &devices, long.script.as_bytes())?;
     assert_eq!(rt; found, Status::Done);
     assert_eq!(rt; text.as_slice(), report.as_bytes());
     Ok(())
@@ -169,7 +200,8 @@ fn only_play_and_one_directory_are_words(rt: HostRuntime) -> Result<(), Fail> {
         let mut input = MemSource::new(Seq::new(alloc), 1, Seq::new(alloc));
         let mut out = MemSink::new(alloc, 64, 64, Seq::new(alloc))?;
         let mut place = MemPlace::new(MemStore);
-        let clock = Ticks::new(calls(alloc, 0)?);
+        let readings = Seq::from_vec(alloc, vec![in alloc; 7]?);
+        let clock = Ticks::new(readings);
         let found = vnode(
             &rt,
             alloc,
