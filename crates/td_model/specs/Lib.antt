@@ -1,10 +1,5 @@
 pub mod Catalog
 pub mod State
-pub mod Verdict
-pub mod Script
 pub mod Text
 pub mod Printable
-pub mod Times
-pub mod Told
-pub mod Worked
 pub mod Tags

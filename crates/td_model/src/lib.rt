@@ -2,24 +2,21 @@
 //!
 //! The types are those of the statement language (`language`), of the catalog (`catalog`), of entries and verdicts
 //! (`history`), of windows and their results (`windows`), and of reports (`report`); each promises that its copy equals
-//! what it copies. The definitions stand in `specs/`, one file a subject: `Catalog` (tables, supertables and streams by
-//! name and number, and what an entry makes of them), `State` (what an entry makes of a state, and a history of all its
-//! entries), `Verdict` (what a statement meets in a state, and what a query answers), `Script` (which bytes are a script),
-//! `Text` (the bytes of a report), `Times` (moments beside the readings of a clock), `Told` (when a report tells the run of
-//! a script), and `Worked` (an example, checked by computing).
+//! what it copies. The definitions that don't go by the forms of statement stand in `specs/`, one file a subject: `Catalog`
+//! (tables, supertables and streams by name and number, and what an entry makes of them), `State` (what an entry makes of a
+//! state, and a history of all its entries), `Tags` (which subtables a comparison of a tag gives), `Text` (the bytes of a
+//! report) and `Printable` (which reports a text tells apart). Those that widen with the forms stand in `td_told`.
 //!
 //! It stands on `td_layer` and `td_cols`.
 #![tactic(auto)]
 
 mod catalog;
-mod forms;
 mod history;
 mod language;
 mod report;
 mod windows;
 
 pub use catalog::{Column, Schema, StableDef, StreamEntry, TableDef};
-pub use forms::Form;
 pub use history::{Entry, Put, Verdict, What};
 pub use language::{
     Cond, Item, ItemKind, Lit, Op, OrderBy, PartBy, Query, Stmt, StreamDef, Trigger, WindowDef,

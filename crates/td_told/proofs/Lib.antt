@@ -1,0 +1,5 @@
+pub mod Plays
+pub mod Orders
+pub mod Counts
+pub mod Fits
+pub mod Tells
