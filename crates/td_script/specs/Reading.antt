@@ -1,0 +1,1 @@
+-- Reading from left to right: the kind of a line, and the line in front.

@@ -1,0 +1,1 @@
+//! Scripts, with ample memory.
