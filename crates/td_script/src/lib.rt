@@ -8,8 +8,10 @@
 //! It stands on `td_layer` alone, for its lists.
 #![tactic(auto)]
 
+mod forms;
 mod laws;
 mod lines;
+mod numbering;
 mod reading;
 #[cfg(test)]
 mod tests;

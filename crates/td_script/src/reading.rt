@@ -2,7 +2,9 @@
 ghost use Rattle.std.specs.Prelude.{◌≤◌, length, IfOk, IfErr};
 ghost use Rattle.td_script.specs.Script.{IsScript, FaultIs};
 
+use crate::forms::{first_line, line_kind};
 use crate::lines::{Line, ScriptFault};
+use crate::numbering::Numbering;
 use std::alloc::Global;
 use td_layer::Seq;
 
@@ -16,5 +18,21 @@ pub fn script(alloc: Global, bytes: &[u8]) -> Result<Seq<Line>, ScriptFault>
     ensures few { IfOk result (λ lines. length lines ≤ length bytes.now) }
     ensures fault { IfErr result (λ fault. FaultIs bytes.now fault) }
 {
-    Err(ScriptFault::NoMemory)
+    let mut numbering = Numbering::new(alloc);
+    let mut rest = bytes;
+    let mut number: u64 = 0;
+    while !rest.is_empty() {
+        let (line, after) = first_line(rest);
+        number += 1;
+        match line_kind(line) {
+            None => return Err(ScriptFault::BadScript(number)),
+            Some(kind) => {
+                if numbering.add(alloc, kind).is_err() {
+                    return Err(ScriptFault::NoMemory);
+                }
+            }
+        }
+        rest = after;
+    }
+    Ok(numbering.into_lines())
 }
