@@ -89,3 +89,7 @@ small_phase bytes rest number n p = omega (arith, p.told.few_phases, same_length
 
 pub small_counts : (bytes rest : List ℕ) (number : ℕ) (n : Numbering) → Progress bytes rest number n → (i : ℕ) → i < length n.counts → get_or n.counts i 0 ≤ length bytes
 small_counts bytes rest number n p i inside = omega (arith, small_count p.kinds n p.told i inside, same_length p.lines p.kinds p.of_kinds, p.few)
+
+pub no_bytes : (xs : List ℕ) → length xs ≡ 0 → xs ≡ []
+no_bytes [] e = refl
+no_bytes (x ∷ xs) e = absurd (omega arith)
