@@ -81,19 +81,19 @@ told_more kinds n Phase h t = record {
   few_lines = omega (arith, length_push kinds Phase, t.few_lines);
 }
 told_more kinds n (Statement s text) h t =
-  let line : ℕ → Line = λ (o : ℕ). record { phase = n.phase; session = s; ordinal = o; text = text } in
-  let ordinal : count_of s t.sessions + 1 ≡ slice_index n.counts (s - 1) + 1 = ap (λ x. x + 1) (sym (t.counted s h.0 h.1)) in
-  record {
-    sessions = s ∷ t.sessions;
-    told = λ rest. ap (lines_from 1 []) (append_assoc kinds (Statement s text ∷ []) rest) ∙ t.told (Statement s text ∷ rest)
-      ∙ ap (λ o. n.lines ++ line o ∷ lines_from n.phase (s ∷ t.sessions) rest) ordinal
-      ∙ sym (append_assoc n.lines (line (slice_index n.counts (s - 1) + 1) ∷ []) (lines_from n.phase (s ∷ t.sessions) rest));
-    counted = counts_more n.counts t.sessions s t.wide h.0 h.1 t.counted;
-    wide = length-set n.counts (s - 1) (slice_index n.counts (s - 1) + 1) ∙ t.wide;
-    few_sessions = omega (arith, length_push kinds (Statement s text), t.few_sessions);
-    few_phases = omega (arith, length_push kinds (Statement s text), t.few_phases);
-    few_lines = omega (arith, length_push kinds (Statement s text), t.few_lines, length_push n.lines (line (slice_index n.counts (s - 1) + 1)));
-  }
+    let line : ℕ → Line = λ (o : ℕ). record { phase = n.phase; session = s; ordinal = o; text = text } in
+    let ordinal : count_of s t.sessions + 1 ≡ slice_index n.counts (s - 1) + 1 = ap (λ x. x + 1) (sym (t.counted s h.0 h.1)) in
+    record {
+      sessions = s ∷ t.sessions;
+      told = λ rest. ap (lines_from 1 []) (append_assoc kinds (Statement s text ∷ []) rest) ∙ t.told (Statement s text ∷ rest)
+          ∙ ap (λ o. n.lines ++ line o ∷ lines_from n.phase (s ∷ t.sessions) rest) ordinal
+          ∙ sym (append_assoc n.lines (line (slice_index n.counts (s - 1) + 1) ∷ []) (lines_from n.phase (s ∷ t.sessions) rest));
+      counted = counts_more n.counts t.sessions s t.wide h.0 h.1 t.counted;
+      wide = length-set n.counts (s - 1) (slice_index n.counts (s - 1) + 1) ∙ t.wide;
+      few_sessions = omega (arith, length_push kinds (Statement s text), t.few_sessions);
+      few_phases = omega (arith, length_push kinds (Statement s text), t.few_phases);
+      few_lines = omega (arith, length_push kinds (Statement s text), t.few_lines, length_push n.lines (line (slice_index n.counts (s - 1) + 1)));
+    }
 
 -- no count is greater than the number of lines
 pub small_count : (kinds : List LineKind) (n : Numbering) → Told kinds n → (i : ℕ) → i < length n.counts → get_or n.counts i 0 ≤ length kinds

@@ -73,9 +73,11 @@ stops bytes rest number n line after p some front e = record {
 }
 
 pub ended : (bytes : List ℕ) (number : ℕ) (n : Numbering) → Progress bytes [] number n → IsScript bytes n.lines
-ended bytes number n p =
-    (p.kinds, (p.lines, subst (AreCut bytes) (append-nil p.lines) (p.cut [] none), p.of_kinds),
-    sym (append-nil n.lines) ∙ sym (p.told.told []) ∙ ap (lines_from 1 []) (append-nil p.kinds))
+ended bytes number n p = (
+  p.kinds,
+  (p.lines, subst (AreCut bytes) (append-nil p.lines) (p.cut [] none), p.of_kinds),
+  sym (append-nil n.lines) ∙ sym (p.told.told []) ∙ ap (lines_from 1 []) (append-nil p.kinds),
+)
 
 -- the numbers stay small
 pub few_lines : (bytes rest : List ℕ) (number : ℕ) (n : Numbering) → Progress bytes rest number n → length n.lines ≤ length bytes

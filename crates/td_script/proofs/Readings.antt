@@ -149,7 +149,7 @@ statement_found line k e =
     let blanks = blanks_found parts.0.1 in
     let is : Statement session.0 (without_blanks parts.0.1) ≡ k = cc in
     let whole : line ≡ digits session.0 ++ 58 ∷ (blanks.0 ++ without_blanks parts.0.1) =
-        (parted_found 58 line parts.0 parts.1).0 ∙ ap (λ xs. xs ++ 58 ∷ parts.0.1) n.2 ∙ ap (λ xs. digits session.0 ++ 58 ∷ xs) blanks.1 in
+    (parted_found 58 line parts.0 parts.1).0 ∙ ap (λ xs. xs ++ 58 ∷ parts.0.1) n.2 ∙ ap (λ xs. digits session.0 ++ 58 ∷ xs) blanks.1 in
     form_at line _ _ k whole is (statement_line session.0 blanks.0 (without_blanks parts.0.1) n.0 n.1 blanks.2 blanks.3)
 
 statement_again : (session : ℕ) (ds blanks text : List ℕ) → 1 ≤ session → session ≤ 64 → AreSessionDigits session ds → AreBlanks blanks → BeginsWithNoBlank text → statement_of (ds ++ 58 ∷ (blanks ++ text)) ≡ Some (Statement session text)

@@ -4,7 +4,6 @@ use Rattle.std.specs.List.{list_all}
 use Rattle.std.specs.Option.{option_and_then}
 use Rattle.std.specs.Str.{is_utf8, bytes_eq}
 use lib.Chars.{codes}
-
 use Rattle.td_script.specs.declared.lines.Line.{Line}
 use Rattle.td_script.specs.declared.forms.Kind.{Kind}
 use Rattle.td_script.specs.declared.forms.Kind.TheVariants as kind

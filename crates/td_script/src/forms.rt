@@ -88,11 +88,7 @@ fn session(digits: &[u8]) -> Option<u32>
         [ones] if *ones >= b'1' && *ones <= b'9' => Some(u32::from(*ones - b'0')),
         [tens, ones] if *tens >= b'1' && *tens <= b'9' && *ones >= b'0' && *ones <= b'9' => {
             let session = u32::from(*tens - b'0') * 10 + u32::from(*ones - b'0');
-            if session <= 64 {
-                Some(session)
-            } else {
-                None
-            }
+            if session <= 64 { Some(session) } else { None }
         }
         _ => None,
     }

@@ -1,5 +1,5 @@
 //! The statement lines, numbered as they come.
-ghost use Rattle.std.specs.Prelude.{◌≡◌, ◌+◌, ◌^◌, ◌<◌, [], OnOk, EachIndex, slice_index};
+ghost use Rattle.std.specs.Prelude.{◌≡◌, ◌+◌, ◌^◌, ◌<◌, [], OnOk, OnErr, EachIndex, slice_index};
 ghost use Rattle.td_script.specs.Reading.{shown, step, AreNone, HasCount};
 
 use crate::forms::Kind;
@@ -29,12 +29,13 @@ impl Numbering {
         }
     }
 
-    /// Adds a line of this kind. Where there is no memory nothing is said of what is left.
+    /// Adds a line of this kind. Where there is no memory all stays as it was.
     pub fn add(&mut self, alloc: Global, kind: Kind<'_>) -> Result<(), NoMem>
         requires phase { self.old.phase + 1 < 2 ^ 32 }
         requires counts { EachIndex self.old.counts (λ i. slice_index self.old.counts i + 1 < 2 ^ 32) }
         requires session { HasCount (shown kind) }
-        ensures { OnOk result (self.new ≡ step self.old (shown kind.entry)) }
+        ensures ok { OnOk result (self.new ≡ step self.old (shown kind.entry)) }
+        ensures err { OnErr result (self.new ≡ self.old) }
     {
         match kind {
             Kind::Empty | Kind::Comment => {}
@@ -42,16 +43,17 @@ impl Numbering {
             Kind::Statement(session, text) => {
                 let text = Seq::of_bytes(alloc, text)?;
                 let at = session as usize - 1;
-                self.counts[at] += 1;
+                let ordinal = self.counts[at] + 1;
                 let line = Line {
                     phase: self.phase,
                     session,
-                    ordinal: self.counts[at],
+                    ordinal,
                     text,
                 };
                 if self.lines.push(line).is_err() {
                     return Err(NoMem);
                 }
+                self.counts[at] = ordinal;
             }
         }
         Ok(())
