@@ -1,8 +1,8 @@
 -- What holds of every script: the laws.
-use Rattle.std.proofs.Common.{◌≡◌, ◌≢◌, ℕ, ◌+◌, ◌≤◌, List, [], ◌∷◌, ◌++◌, length, refl, sym, ap, subst, ◌∙◌, arith}
+use Rattle.std.proofs.Common.{◌≡◌, ℕ, ◌+◌, List, [], ◌∷◌, ◌++◌, length, refl, sym, ap, subst, ◌∙◌, arith}
 use Rattle.std.specs.List.{AllByRecursion}
 use Rattle.td_script.specs.declared.lines.Line.{Line}
-use Rattle.td_script.specs.Script.{LineKind, IsLine, IsSomeLine, AreCut, AreOfKinds, AreLines, lines_from, IsScript, FirstOutside, Numbered}
+use Rattle.td_script.specs.Script.{LineKind, IsSomeLine, AreOfKinds, lines_from, IsScript, FirstOutside, Numbered}
 use Rattle.td_script.proofs.Readings.{one_kind, session_of_form}
 use Rattle.td_script.proofs.Cutting.{one_cut}
 use Rattle.td_script.proofs.Counting.{AllHaveCounts, numbered_from}

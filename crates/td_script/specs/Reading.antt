@@ -1,10 +1,9 @@
 -- Reading from left to right: the line in front, what a line is, and what a line adds.
-use Rattle.std.specs.Prelude.{◌≡◌, ℕ, ◌+◌, ◌-◌, ◌*◌, ◌≤◌, Bool, true, false, ◌&&◌, ◌==◌, nat_le, if◌then◌else◌, List, [], ◌∷◌, ◌++◌, length, slice_index, slice_set, EachIndex, Option, Some, None}
+use Rattle.std.specs.Prelude.{◌≡◌, ℕ, ◌+◌, ◌-◌, ◌*◌, ◌≤◌, Bool, false, ◌&&◌, ◌==◌, nat_le, if◌then◌else◌, List, [], ◌∷◌, ◌++◌, length, slice_index, slice_set, EachIndex, Option, Some, None}
 use Rattle.std.specs.List.{list_all}
 use Rattle.std.specs.Option.{option_and_then}
 use Rattle.std.specs.Str.{is_utf8, bytes_eq}
 use lib.Chars.{codes}
-use Rattle.td_script.specs.declared.lines.Line.{Line}
 use Rattle.td_script.specs.declared.forms.Kind.{Kind}
 use Rattle.td_script.specs.declared.forms.Kind.TheVariants as kind
 use Rattle.td_script.specs.declared.numbering.Numbering.{Numbering}

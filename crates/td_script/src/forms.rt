@@ -6,7 +6,7 @@ ghost use Rattle.td_script.specs.Script.{is_blank, without_return};
 ghost use Rattle.td_script.specs.Reading.{shown, parted_at, front_of, without_blanks, session_of, statement_of, is_comment, form_of, kind_of, HasCount};
 
 /// What a line is. A statement's text lies in the line.
-#[derive(Clone, Copy, Debug)]
+#[derive(Clone, Copy)]
 pub enum Kind<'a> {
     Empty,
     Comment,

@@ -1,4 +1,4 @@
-use Rattle.std.proofs.Common.{refl, sym, ◌∙◌}
+use Rattle.std.proofs.Common.{◌∙◌}
 use Rattle.td_script.proofs.Returns.{with_return, with_none}
 use Rattle.td_script.proofs.forms.without_return.Goals as goal
 

@@ -1,10 +1,10 @@
-use Rattle.std.proofs.Common.{◌≡◌, ◌≢◌, [], List, ℕ, ◌+◌, ◌≤◌, length, refl, sym, ap, subst, ◌∙◌, arith}
+use Rattle.std.proofs.Common.{◌≡◌, ◌≢◌, [], ◌+◌, length, sym, ap, subst, arith}
 use Rattle.std.proofs.lemmas.Grind.{common_steps}
 use Rattle.std.proofs.lemmas.Bool.Decides.{nat_tests}
 use Rattle.td_script.specs.Script.{IsScript}
 use Rattle.td_script.specs.Reading.{shown, step}
 use Rattle.td_script.proofs.Cutting.{shorter}
-use Rattle.td_script.proofs.Progress.{Progress, begun, goes_on, stops, ended, has_count, few_lines, small_phase, small_counts, small_number, no_bytes}
+use Rattle.td_script.proofs.Progress.{Progress, begun, goes_on, stops, ended, has_count, few_lines, small_phase, small_counts, no_bytes}
 use Rattle.td_script.proofs.reading.script.Goals as goal
 
 pub loop-rest-init : goal.loop-rest-init

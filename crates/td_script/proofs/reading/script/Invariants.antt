@@ -1,4 +1,4 @@
-use Rattle.std.proofs.Common.{◌≤◌, length}
+use Rattle.std.proofs.Common.{length}
 use Rattle.td_script.proofs.Progress.{Progress}
 use Rattle.td_script.proofs.reading.script.Given as goal
 
