@@ -1,0 +1,6 @@
+pub mod Returns
+pub mod Readings
+pub mod Cutting
+pub mod Counting
+pub mod Whole
+pub mod Progress

@@ -1,0 +1,5 @@
+use Rattle.td_script.proofs.Whole as proof
+use Rattle.td_script.proofs.laws.apart.Goals as goal
+
+pub returns : goal.returns
+returns c = proof.apart
