@@ -1,0 +1,5 @@
+pub mod Starts
+pub mod ItemLists
+pub mod Texts
+pub mod Answered
+pub mod Alike
