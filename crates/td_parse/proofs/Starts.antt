@@ -2,7 +2,8 @@
 use Rattle.std.proofs.Common.{◌≡◌, List, [], ◌∷◌, refl}
 use Rattle.td_grammar.specs.declared.lexemes.Lexeme.{Lexeme}
 use Rattle.td_grammar.specs.Grammar.{starts, first}
-use Rattle.td_parse.specs.Productions.{a_trigger, between, close_cursor, count_thing, counted, create, delete, drop_stream, fetch, function_thing, insert, interval, null_test, of_stable, open_cursor, query, session, stable, state_window, step, table, tags, text_kind, window}
+use Rattle.td_clauses.specs.Productions.{query}
+use Rattle.td_parse.specs.Productions.{a_trigger, close_cursor, create, delete, drop_stream, fetch, insert, of_stable, open_cursor, stable, step, table, tags, text_kind}
 
 pub starts_tags : (ts : List Lexeme) → starts (first (tags {E = Unit {0}})) ts ≡ starts ((84, 84) ∷ []) ts
 unfolding tags
@@ -15,38 +16,6 @@ starts_of_stable ts = refl
 pub starts_text_kind : (ts : List Lexeme) → starts (first (text_kind {E = Unit {0}})) ts ≡ starts ((31, 31) ∷ []) ts
 unfolding text_kind
 starts_text_kind ts = refl
-
-pub starts_counted : (ts : List Lexeme) → starts (first (counted {E = Unit {0}})) ts ≡ starts ((5, 5) ∷ []) ts
-unfolding counted
-starts_counted ts = refl
-
-pub starts_count_thing : (ts : List Lexeme) → starts (first (count_thing {E = Unit {0}})) ts ≡ starts ((35, 35) ∷ []) ts
-unfolding count_thing
-starts_count_thing ts = refl
-
-pub starts_function_thing : (ts : List Lexeme) → starts (first (function_thing {E = Unit {0}})) ts ≡ starts ((36, 42) ∷ []) ts
-unfolding function_thing
-starts_function_thing ts = refl
-
-pub starts_between : (ts : List Lexeme) → starts (first (between {E = Unit {0}})) ts ≡ starts ((92, 92) ∷ []) ts
-unfolding between
-starts_between ts = refl
-
-pub starts_null_test : (ts : List Lexeme) → starts (first (null_test {E = Unit {0}})) ts ≡ starts ((93, 93) ∷ []) ts
-unfolding null_test
-starts_null_test ts = refl
-
-pub starts_interval : (ts : List Lexeme) → starts (first (interval {E = Unit {0}})) ts ≡ starts ((100, 100) ∷ []) ts
-unfolding interval
-starts_interval ts = refl
-
-pub starts_session : (ts : List Lexeme) → starts (first (session {E = Unit {0}})) ts ≡ starts ((102, 102) ∷ []) ts
-unfolding session
-starts_session ts = refl
-
-pub starts_window : (ts : List Lexeme) → starts (first (window {E = Unit {0}})) ts ≡ starts ((100, 100) ∷ (102, 102) ∷ (103, 103) ∷ []) ts
-unfolding window interval session state_window
-starts_window ts = refl
 
 pub starts_a_trigger : (ts : List Lexeme) → starts (first (a_trigger {E = Unit {0}})) ts ≡ starts ((45, 45) ∷ []) ts
 unfolding a_trigger

@@ -1,6 +1,6 @@
 //! Parts of statements on their way into trees.
 use td_layer::{Name, Seq};
-use td_model::{Column, Cond, Lit, Op, OrderBy, PartBy, Trigger, WindowDef};
+use td_model::{Column, Lit, Trigger};
 
 // What follows the name in CREATE TABLE: the columns of a plain table, those of a supertable with its tags, or the
 // supertable of a subtable with its tags.
@@ -9,36 +9,6 @@ pub(crate) enum Body {
     Plain(Seq<Column>),
     Super(Seq<Column>, Seq<Column>),
     Sub(Name, Seq<Lit>),
-}
-
-// What is asked of a column or a tag.
-#[derive(Drop)]
-pub(crate) enum Test {
-    Is(Op, Lit),
-    Between(Lit, Lit),
-}
-
-#[derive(Drop)]
-pub(crate) struct Clause {
-    pub of: PartBy,
-    pub test: Test,
-}
-
-// How an answer is cut.
-#[derive(Clone, Copy)]
-pub(crate) struct Cut {
-    pub limit: Option<i128>,
-    pub skip: i128,
-}
-
-// What follows the source of a query.
-#[derive(Drop)]
-pub(crate) struct Clauses {
-    pub conds: Seq<Cond>,
-    pub parts: Seq<PartBy>,
-    pub window: WindowDef,
-    pub order: OrderBy,
-    pub cut: Cut,
 }
 
 // One option of a stream.

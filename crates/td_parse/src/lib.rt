@@ -6,16 +6,12 @@
 //! (`specs/Statements`). The crate promises that each text is answered exactly so, and that a text has one tree at most, that
 //! spelling a text's words in another case or with other blanks changes nothing, and neither does a `;` at the end.
 //!
-//! It stands on `td_grammar`, which has the reading of tokens by grammars, on `td_lex`, whose tokens these are, and on
-//! `td_model`, whose trees these are.
+//! It stands on `td_clauses`, which reads queries and lists of names and literals, on `td_grammar`, which has the reading of
+//! tokens by grammars, on `td_lex`, whose tokens these are, and on `td_model`, whose trees these are.
 #![tactic(auto)]
 
-mod conds;
 mod drafts;
 mod laws;
-mod lists;
-mod literals;
-mod query;
 mod statements;
 mod streams;
 mod tables;

@@ -7,11 +7,11 @@ ghost use Rattle.td_parse.specs.Productions.{a_statement as prod_a_statement, cl
 ghost use Rattle.td_grammar.specs.Grammar.{whole as whole_read, ended as tree_ended};
 ghost use Rattle.td_grammar.specs.Words.{perhaps, SEMICOLON};
 
-use crate::query::query;
 use crate::streams::stream;
 use crate::tables::{stable, table};
 use crate::writes::{delete, insert};
 use std::alloc::Global;
+use td_clauses::query;
 use td_grammar::{Fault, Lexeme, kinds, name, number, sign, starts};
 use td_model::Stmt;
 

@@ -8,9 +8,8 @@ ghost use Rattle.td_model.specs.declared.language.Trigger.TheVariants.{AtOnce};
 ghost use Rattle.td_parse.specs.Productions.{is_new, with_choice as choice_added, or_else, stream_of};
 
 use crate::drafts::{Choice, Options};
-use crate::literals::starts_either;
-use crate::query::query;
 use std::alloc::Global;
+use td_clauses::{query, starts_either};
 use td_grammar::{Fault, Lexeme, bit, duration, kinds, sign, starts};
 use td_layer::Name;
 use td_model::{Query, Stmt, StreamDef, Trigger};

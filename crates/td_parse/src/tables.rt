@@ -7,8 +7,8 @@ ghost use Rattle.td_parse.specs.Productions.{column as prod_column, column_kind 
 ghost use Rattle.td_parse.specs.Productions.{size_of, table_of, not_built_by};
 
 use crate::drafts::Body;
-use crate::literals::lits;
 use std::alloc::Global;
+use td_clauses::literal_list;
 use td_grammar::{Fault, Lexeme, kinds, name, next, number, sign, starts};
 use td_layer::{Name, Seq};
 use td_model::{Column, Kind, Stmt};
@@ -295,7 +295,7 @@ fn of_stable(alloc: Global, tokens: &[Lexeme]) -> Result<(Body, &[Lexeme]), Faul
     let (stable, rest) = name(alloc, rest)?;
     let rest = sign(rest, kinds::TAGS)?;
     let rest = sign(rest, kinds::OPEN_PAREN)?;
-    let (tags, rest) = lits(alloc, rest)?;
+    let (tags, rest) = literal_list(alloc, rest)?;
     let rest = sign(rest, kinds::CLOSE_PAREN)?;
     Ok((Body::Sub(stable, tags), rest))
 }

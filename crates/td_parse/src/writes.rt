@@ -5,8 +5,8 @@ ghost use Rattle.td_grammar.specs.Grammar.{starts as starts_with};
 ghost use Rattle.td_grammar.specs.Gives.{Gives};
 ghost use Rattle.td_parse.specs.Productions.{chosen_columns as prod_chosen_columns, delete as prod_delete, further_group as prod_further_group, group as prod_group, groups as prod_groups, insert as prod_insert, range_of as prod_range_of};
 
-use crate::literals::{bound, lits, names, starts_either};
 use std::alloc::Global;
+use td_clauses::{bound, literal_list, name_list, starts_either};
 use td_grammar::{Fault, Lexeme, kinds, name, same, sign, starts};
 use td_layer::{Name, Seq};
 use td_model::{Lit, Stmt};
@@ -17,7 +17,7 @@ fn chosen_columns(alloc: Global, tokens: &[Lexeme]) -> Result<(Option<Seq<Name>>
 {
     if starts(tokens, kinds::OPEN_PAREN, kinds::OPEN_PAREN) {
         let rest = sign(tokens, kinds::OPEN_PAREN)?;
-        let (all, rest) = names(alloc, rest)?;
+        let (all, rest) = name_list(alloc, rest)?;
         let rest = sign(rest, kinds::CLOSE_PAREN)?;
         let all = Some(all);
         Ok((all, rest))
@@ -31,7 +31,7 @@ fn group(alloc: Global, tokens: &[Lexeme]) -> Result<(Seq<Lit>, &[Lexeme]), Faul
     ensures { Gives (λ x. (x.0, x.1.now)) result (read (tt {0}) prod_group tokens.now) }
 {
     let rest = sign(tokens, kinds::OPEN_PAREN)?;
-    let (all, rest) = lits(alloc, rest)?;
+    let (all, rest) = literal_list(alloc, rest)?;
     let rest = sign(rest, kinds::CLOSE_PAREN)?;
     Ok((all, rest))
 }
