@@ -1,6 +1,7 @@
 -- The productions of statements, in the order of the language's description, above those of their clauses. A word in capitals is
 -- that word in any case.
 use Rattle.std.specs.Prelude.{◌≡◌, ◌==◌, if◌then◌else◌, ℕ, ℤ, pos, negsuc, Bool, true, false, nat_le, List, [], ◌∷◌, Option, Some, None, refl}
+use Rattle.std.specs.Option.{unwrap_or}
 use lib.Chars.{codes}
 use Rattle.td_lex.specs.declared.kinds.Token.TheVariants.{Word}
 use Rattle.td_cols.specs.declared.kinds.Kind.{Kind}
@@ -175,12 +176,8 @@ unfoldable pub options : {E : Type 0} → G E Options
 options = loop no_options is_new with_choice a_choice
 
 -- CREATE STREAM name { option } INTO name AS query
-abbrev pub or_else : {A : Type 0} → Option A → A → A
-or_else None other = other
-or_else (Some a) other = a
-
 abbrev pub stream_of : List ℕ → Options → List ℕ → Query → StreamDef
-stream_of n o target q = record { name = n; trigger = or_else o.trigger trigger.AtOnce; watermark = or_else o.watermark 0; ignore_expired = or_else o.expired false; fill_history = or_else o.history true; target = target; query = q }
+stream_of n o target q = record { name = n; trigger = unwrap_or o.trigger trigger.AtOnce; watermark = unwrap_or o.watermark 0; ignore_expired = unwrap_or o.expired false; fill_history = unwrap_or o.history true; target = target; query = q }
 
 unfoldable pub stream : {E : Type 0} → G E Stmt
 stream = STREAM ▷ both (λ n (r : Options × (List ℕ × Query)). stmt.MakeStream (stream_of n r.0 r.1.0 r.1.1)) name (both (λ o r. (o, r)) options (INTO ▷ both (λ t q. (t, q)) name (AS ▷ query)))

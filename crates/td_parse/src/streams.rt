@@ -4,8 +4,7 @@ ghost use Rattle.td_grammar.specs.Grammar.{read, begun};
 ghost use Rattle.td_grammar.specs.Grammar.{starts as starts_with};
 ghost use Rattle.td_grammar.specs.Gives.{Gives};
 ghost use Rattle.td_parse.specs.Productions.{a_choice as prod_a_choice, a_trigger as prod_a_trigger, options as prod_options, stream as prod_stream};
-ghost use Rattle.td_model.specs.declared.language.Trigger.TheVariants.{AtOnce};
-ghost use Rattle.td_parse.specs.Productions.{is_new, with_choice as choice_added, or_else, stream_of};
+ghost use Rattle.td_parse.specs.Productions.{is_new, with_choice as choice_added, stream_of};
 
 use crate::drafts::{Choice, Options};
 use std::alloc::Global;
@@ -141,39 +140,12 @@ fn stream_of(name: Name, options: Options, target: Name, query: Query) -> Stream
 {
     StreamDef {
         name,
-        trigger: trigger_or(options.trigger),
-        watermark: number_or(options.watermark, 0),
-        ignore_expired: bit_or(options.expired, false),
-        fill_history: bit_or(options.history, true),
+        trigger: options.trigger.unwrap_or(Trigger::AtOnce),
+        watermark: options.watermark.unwrap_or(0),
+        ignore_expired: options.expired.unwrap_or(false),
+        fill_history: options.history.unwrap_or(true),
         target,
         query,
-    }
-}
-
-fn trigger_or(given: Option<Trigger>) -> Trigger
-    ensures { result ≡ or_else given AtOnce }
-{
-    match given {
-        Some(trigger) => trigger,
-        None => Trigger::AtOnce,
-    }
-}
-
-fn number_or(given: Option<u64>, other: u64) -> u64
-    ensures { result ≡ or_else given other }
-{
-    match given {
-        Some(n) => n,
-        None => other,
-    }
-}
-
-fn bit_or(given: Option<bool>, other: bool) -> bool
-    ensures { result ≡ or_else given other }
-{
-    match given {
-        Some(bit) => bit,
-        None => other,
     }
 }
 
