@@ -3,3 +3,5 @@ pub mod ItemLists
 pub mod Texts
 pub mod Answered
 pub mod Alike
+pub mod OneAnswer
+pub mod SameTrees

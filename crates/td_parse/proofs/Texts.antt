@@ -137,7 +137,7 @@ of_all text ts answer h (inl (tree, d, value)) = inl (ts, tree, h, d, value)
 of_all text ts answer h (inr (left, fails, value)) =
     inr (cause_of ts left (length text), failed text [] ts (length text) left h fails (λ none begins. (ts, [], h, begins, inl (refl, none, refl))), value)
 
-whole_begins : (ts : List Spanned) (tree : Stmt) → IsStatement (lexemes ts) tree → BeginsStatement (lexemes ts)
+pub whole_begins : (ts : List Spanned) (tree : Stmt) → IsStatement (lexemes ts) tree → BeginsStatement (lexemes ts)
 whole_begins ts tree d = ([], tree, tt, subst (λ us. IsStatement us tree) (sym (append-nil (lexemes ts))) d)
 
 -- no token stands at this place

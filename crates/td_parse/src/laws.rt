@@ -9,7 +9,13 @@ ghost use Rattle.td_grammar.specs.declared.lexemes.Lexeme.{Lexeme};
 ghost use Rattle.td_grammar.specs.Kinds.{lexeme_of};
 ghost use Rattle.td_grammar.specs.Grammar.{Derives};
 ghost use Rattle.td_parse.specs.Productions.{a_statement};
-ghost use Rattle.td_parse.specs.Statements.{IsStatement, Parsed};
+ghost use Rattle.td_parse.specs.Written.{written_text};
+ghost use Rattle.td_parse.specs.Statements.{IsAnswer, IsStatement, Parsed};
+
+/// A text has one answer, failures included: its tree, or its cause and place.
+pub fn one_answer()
+    ensures { (text : List ℕ) (a b : Stmt) → IsAnswer text a → IsAnswer text b → a ≡ b }
+{}
 
 /// Tokens are a statement with one tree at most.
 pub fn one_tree()
@@ -25,4 +31,9 @@ pub fn same_tokens()
 /// A `;` at the end of a statement changes nothing.
 pub fn final_semicolon()
     ensures { (ts : List Lexeme) (tree : Stmt) → Derives (tt {0}) a_statement ts tree → IsStatement ts tree × IsStatement (ts ++ lexeme_of (Sym 59) ∷ []) tree }
+{}
+
+/// The grammar by which texts are read derives exactly the trees of the grammar as it is written.
+pub fn as_it_is_written()
+    ensures { (ts : List Lexeme) (tree : Stmt) → (Derives (tt {0}) written_text ts tree → IsStatement ts tree) × (IsStatement ts tree → Derives (tt {0}) written_text ts tree) }
 {}
