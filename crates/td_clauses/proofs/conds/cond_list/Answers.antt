@@ -1,0 +1,41 @@
+use Rattle.std.proofs.Common.{rules, ◌≡◌, [], ◌∷◌, List, ◌++◌, length, ap, sym, ◌∙◌, subst, Ok}
+use Rattle.std.proofs.lemmas.Result.{err_from_is_err_and}
+use Rattle.td_grammar.specs.Grammar.{read}
+use Rattle.td_grammar.specs.Words.{states_from, anything}
+use Rattle.td_clauses.specs.Productions.{clause, further_clause, cond_list, with_clause, conds_of}
+use Rattle.td_grammar.proofs.Forms.{fails_on}
+use Rattle.td_clauses.proofs.ItemLists.{conds_laws, conds_begins, conds_fail, begun_anything}
+use Rattle.td_clauses.proofs.conds.cond_list.Goals as goal
+
+pub loop-rest-init : goal.loop-rest-init
+loop-rest-init c =
+    ap (λ all. states_from further_clause anything with_clause all c.in_ok-head.after.now) (c.in_ok-add_conds.ensures.ok ∙ ap (λ xs. xs ++ conds_of c.in_ok-head.head) c.new-all.ensures.items)
+    ∙ conds_begins c.args.tokens.now c.in_ok-head.head c.in_ok-head.after.now c.in_ok-head.ensures
+
+pub loop-rest-smaller : goal.loop-rest-smaller
+loop-rest-smaller c = conds_laws.eats c.loop-rest.rest.now c.in_ok-item.item c.in_ok-item.after.now c.in_ok-item.ensures
+
+pub loop-rest-preserved : goal.loop-rest-preserved
+loop-rest-preserved c =
+    let on = sym c.starts.ensures ∙ c.loop-rest-test.true in
+    ap (λ all. states_from further_clause anything with_clause all c.in_ok-item.after.now) c.in_ok-add_conds-2.ensures.ok
+    ∙ sym (conds_laws.takes c.loop-rest.all.items c.loop-rest.rest.now c.in_ok-item.item c.in_ok-item.after.now on (begun_anything c.loop-rest.all.items c.loop-rest.rest.now on) c.in_ok-item.ensures)
+    ∙ c.loop-rest.invariant
+
+pub returns : goal.returns
+returns c =
+    sym c.loop-rest.invariant
+    ∙ conds_laws.stops c.loop-rest.all.items c.loop-rest.rest.now (sym c.starts.ensures ∙ c.loop-rest-test.false)
+    ∙ ap (λ all. Ok (all, c.loop-rest.rest.now)) (sym c.from_vec.ensures)
+
+pub returns-in_err-head : goal.returns-in_err-head
+returns-in_err-head c =
+    let p = err_from_is_err_and c.from_residual.result c.from_residual.ensures.1 in
+    rw (p.1, p.2) (fails_on c.in_err-head.field-0.0 (read (tt {0}) clause c.args.tokens.now) (read (tt {0}) cond_list c.args.tokens.now) (conds_fail c.args.tokens.now) c.in_err-head.ensures)
+
+pub returns-in_err-item : goal.returns-in_err-item
+returns-in_err-item c =
+    let p = err_from_is_err_and c.from_residual-in_err-item.result c.from_residual-in_err-item.ensures.1 in
+    let on = sym c.starts.ensures ∙ c.loop-rest-test.true in
+    rw (p.1, p.2) (fails_on c.in_err-item.field-0.0 (read (tt {0}) further_clause c.loop-rest.rest.now) (read (tt {0}) cond_list c.args.tokens.now)
+    (λ n h. sym c.loop-rest.invariant ∙ conds_laws.fails c.loop-rest.all.items c.loop-rest.rest.now n on (begun_anything c.loop-rest.all.items c.loop-rest.rest.now on) h) c.in_err-item.ensures)

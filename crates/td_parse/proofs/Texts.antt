@@ -1,0 +1,155 @@
+-- What is answered of a text, from what is answered of its tokens.
+use Rattle.std.proofs.Common.{◌≡◌, ◌≢◌, ℕ, ◌+◌, ◌-◌, ◌≤◌, ◌<◌, Bool, true, false, List, [], ◌∷◌, ◌++◌, length, map, take, drop, Result, Ok, Err, ◌⊎◌, inl, inr, refl, sym, ap, subst, ◌∙◌, arith, append_assoc, le_refl}
+use Rattle.std.proofs.lemmas.List.{append-nil, length-append, length-map, map-append, take-append-le, take_all}
+use Rattle.std.proofs.Math.Seq.{drop-append_seam}
+use Rattle.td_lex.specs.declared.kinds.Token.{Token}
+use Rattle.td_lex.specs.declared.kinds.Token.TheVariants.{Word, Num, Dur, Str, Sym, Le, Ge, Ne}
+use Rattle.td_lex.specs.declared.kinds.Spanned.{Spanned}
+use Rattle.td_lex.specs.declared.kinds.LexFault.{LexFault}
+use Rattle.td_lex.specs.declared.kinds.LexFault.TheVariants.{NoMemory}
+use Rattle.td_lex.specs.Tokens.{BeginsNot, Ends as EndsToken, Stands, Reads, IsTokens, NoToken, WideFirst, Answers as LexAnswers}
+use Rattle.td_lex.proofs.OneAnswer.{one_answer}
+use Rattle.td_model.specs.declared.report.Cause.{Cause}
+use Rattle.td_model.specs.declared.report.Cause.TheVariants.{Syntax}
+use Rattle.td_model.specs.declared.language.Stmt.{Stmt}
+use Rattle.td_model.specs.declared.language.Stmt.TheVariants as stmt
+use Rattle.td_grammar.specs.declared.lexemes.Lexeme.{Lexeme}
+use Rattle.td_grammar.specs.Kinds.{lexeme_of}
+use Rattle.td_grammar.specs.Grammar.{Begins, Ends, FailsAt}
+use Rattle.td_parse.specs.Statements.{lexemes, IsStatement, BeginsStatement, cause_by, EndsEarly, TokenFails, NoTokenStands, Fails, judged, Parsed, Refused, cause_of_rest, cause_of, FailsIn, OfTokens, OfFront}
+
+abbrev first_or : Lexeme → List Lexeme → Lexeme
+first_or d [] = d
+first_or d (l ∷ ls) = l
+
+abbrev tail_of : List Lexeme → List Lexeme
+tail_of [] = []
+tail_of (l ∷ ls) = ls
+
+-- tokens whose lexemes part are parted there
+record Parts (ts : List Spanned) (x y : List Lexeme) : Type 0 where
+  front : List Spanned
+  back : List Spanned
+  parts : ts ≡ front ++ back
+  is_front : lexemes front ≡ x
+  is_back : lexemes back ≡ y
+
+parted : (ts : List Spanned) (x y : List Lexeme) → lexemes ts ≡ x ++ y → Parts ts x y
+parted ts [] y h = record { front = []; back = ts; parts = refl; is_front = refl; is_back = h }
+parted [] (l ∷ x) y h = cc
+parted (t ∷ ts) (l ∷ x) y h =
+    let head : lexeme_of t.token ≡ l = ap (first_or l) h in
+    let deeper = parted ts x y (ap tail_of h) in
+    record {
+      front = t ∷ deeper.front;
+      back = deeper.back;
+      parts = ap (λ r. t ∷ r) deeper.parts;
+      is_front = ap (λ u. u ∷ lexemes deeper.front) head ∙ ap (λ r. l ∷ r) deeper.is_front;
+      is_back = deeper.is_back;
+    }
+
+-- the front of the tokens is read up to some place
+reads_front : (at : ℕ) (text : List ℕ) (a b : List Spanned) (rest : List ℕ) → Reads at text (a ++ b) rest → (mid : List ℕ) × Reads at text a mid
+reads_front at text [] b rest h = (text, ([], refl, refl))
+reads_front at text (t ∷ a) b rest (gap, word, after, blank, parts, stands, place, end, more) =
+    let d = reads_front t.end after a b rest more in
+    (d.0, (gap, word, after, blank, parts, stands, place, end, d.1))
+
+not_begun : (p : ℕ → Bool) (x y : List ℕ) → BeginsNot p (x ++ y) → BeginsNot p x
+not_begun p [] y h = tt
+not_begun p (b ∷ x) y h = h
+
+ends_front : (t : Token) (word x y : List ℕ) → EndsToken t word (x ++ y) → EndsToken t word x
+ends_front (Word name) word x y h = not_begun _ x y h
+ends_front (Num n) word x y h = not_begun _ x y h
+ends_front (Dur count unit) word x y h = not_begun _ x y h
+ends_front (Str content) word x y h = not_begun _ x y h
+ends_front (Sym b) word x y h = not_begun _ x y h
+ends_front Le word x y h = tt
+ends_front Ge word x y h = tt
+ends_front Ne word x y h = tt
+
+-- what is read of a text is the tokens of its front
+reads_cut : (at : ℕ) (text : List ℕ) (ts : List Spanned) (rest : List ℕ) → Reads at text ts rest → (front : List ℕ) × (text ≡ front ++ rest) × Reads at front ts []
+reads_cut at text [] rest (gap, blank, parts) = (gap, parts, (gap, blank, sym (append-nil gap)))
+reads_cut at text (t ∷ ts) rest (gap, word, after, blank, parts, stands, place, end, more) =
+    let d = reads_cut t.end after ts rest more in
+    let f = d.0 in (
+      gap ++ (word ++ f),
+      parts ∙ ap (λ a. gap ++ (word ++ a)) d.1 ∙ sym (append_assoc gap (word ++ f) rest ∙ ap (λ r. gap ++ r) (append_assoc word f rest)),
+      (gap, word, f, blank, refl, (refl, stands.1, ends_front t.token word f rest (subst (λ a. EndsToken t.token word a) d.1 stands.2)), place, end, d.2),
+    )
+
+take_front : (front rest : List ℕ) (at : ℕ) → at + length rest ≡ length (front ++ rest) → take at (front ++ rest) ≡ front
+take_front front rest at h =
+    let n : at ≡ length front = omega (arith, length-append front rest) in
+    rw n (take-append-le (length front) front rest (le_refl (length front)) ∙ take_all (length front) front (le_refl (length front)))
+
+cut_tokens : (text rest : List ℕ) (ts : List Spanned) (at : ℕ) → Reads 0 text ts rest → at + length rest ≡ length text → IsTokens (take at text) ts
+cut_tokens text rest ts at h count =
+    let d = reads_cut 0 text ts rest h in
+    let same : take at text ≡ d.0 = ap (take at) d.1 ∙ take_front d.0 rest at (count ∙ ap length d.1) in
+    subst (λ u. IsTokens u ts) (sym same) d.2
+
+abbrev tokens_in : List Spanned → Result (List Spanned) LexFault → List Spanned
+tokens_in other (Ok ts) = ts
+tokens_in other (Err e) = other
+
+no_fault : (ts : List Spanned) → (let r : Result (List Spanned) LexFault = Ok ts in r ≢ Err NoMemory)
+no_fault ts h = cc
+
+pub one_list : (text : List ℕ) (ts us : List Spanned) → IsTokens text ts → IsTokens text us → us ≡ ts
+one_list text ts us h i = ap (tokens_in us) (one_answer text (Ok us) (Ok ts) (no_fault us) (no_fault ts) i h)
+
+-- the tokens that are left at a failure
+drop_front : (a b : List Spanned) (left : ℕ) → left ≡ length b → drop (length (a ++ b) - left) (a ++ b) ≡ b
+drop_front a b left h =
+    let n : length (a ++ b) - left ≡ length a = omega (arith, length-append a b) in
+    rw n (drop-append_seam a b)
+
+token_fails : (text rest : List ℕ) (x : List Spanned) (t : Spanned) (y : List Spanned) → Reads 0 text (x ++ t ∷ y) rest → BeginsStatement (lexemes x) → (BeginsStatement (lexemes (x ++ t ∷ [])) → ⊥) → Fails text (cause_by t)
+token_fails text rest x t y h begins none =
+    let mid = reads_front 0 text x (t ∷ y) rest h in
+    let one = reads_front 0 text (x ++ t ∷ []) y rest (subst (λ ts. Reads 0 text ts rest) (sym (append_assoc x (t ∷ []) y)) h) in
+    (x, mid.0, mid.1, begins, inr (inl (t, one.0, one.1, none, refl)))
+
+-- a failure, where it is known what stands where all tokens are a front of some statement
+failed : (text rest : List ℕ) (ts : List Spanned) (end left : ℕ) → Reads 0 text ts rest → FailsAt IsStatement (lexemes ts) left
+    → (((tree : Stmt) → IsStatement (lexemes ts) tree → ⊥) → BeginsStatement (lexemes ts) → Fails text (Syntax end)) → Fails text (cause_of ts left end)
+failed text rest ts end left h (front, back, parts, count, begins, ends) at_end =
+    let p = parted ts front back parts in
+    let n : left ≡ length p.back = count ∙ ap length (sym p.is_back) ∙ length-map p.back (λ t. lexeme_of t.token) in
+    let same : cause_of ts left end ≡ cause_of_rest p.back end = ap (λ us. cause_of us left end) p.parts ∙ ap (λ us. cause_of_rest us end) (drop_front p.front p.back left n) in
+    subst (λ c. Fails text c) (sym same) (go p.front p.back p.parts p.is_front p.is_back)
+  where
+    go : (x y : List Spanned) → ts ≡ x ++ y → lexemes x ≡ front → lexemes y ≡ back → Fails text (cause_of_rest y end)
+    go x [] is isx isy =
+        let all : lexemes ts ≡ front = ap lexemes (is ∙ append-nil x) ∙ isx in
+        let none : (tree : Stmt) → IsStatement front tree → ⊥ = subst (λ b. Ends IsStatement front b) (sym isy) ends in
+        at_end (λ tree d. none tree (subst (λ us. IsStatement us tree) all d)) (subst (λ us. BeginsStatement us) (sym all) begins)
+    go x (t ∷ y) is isx isy =
+        let none : Begins IsStatement (front ++ lexeme_of t.token ∷ []) → ⊥ = subst (λ b. Ends IsStatement front b) (sym isy) ends in
+        let same : lexemes (x ++ t ∷ []) ≡ front ++ lexeme_of t.token ∷ [] = map-append (λ u. lexeme_of u.token) x (t ∷ []) ∙ ap (λ f. f ++ lexeme_of t.token ∷ []) isx in
+        token_fails text rest x t y (subst (λ us. Reads 0 text us rest) is h) (subst (λ us. BeginsStatement us) (sym isx) begins) (λ b. none (subst (λ us. BeginsStatement us) same b))
+
+pub of_all : (text : List ℕ) (ts : List Spanned) (answer : Stmt) → IsTokens text ts → OfTokens ts (length text) answer → Parsed text answer ⊎ Refused text answer
+of_all text ts answer h (inl (tree, d, value)) = inl (ts, tree, h, d, value)
+of_all text ts answer h (inr (left, fails, value)) =
+    inr (cause_of ts left (length text), failed text [] ts (length text) left h fails (λ none begins. (ts, [], h, begins, inl (refl, none, refl))), value)
+
+pub whole_begins : (ts : List Spanned) (tree : Stmt) → IsStatement (lexemes ts) tree → BeginsStatement (lexemes ts)
+whole_begins ts tree d = ([], tree, tt, subst (λ us. IsStatement us tree) (sym (append-nil (lexemes ts))) d)
+
+-- no token stands at this place
+stopped : (text rest : List ℕ) (ts us : List Spanned) (at : ℕ) (answer : Stmt) → Reads 0 text ts rest → at + length rest ≡ length text → NoToken rest ⊎ WideFirst rest → us ≡ ts → OfFront us at answer → Refused text answer
+stopped text rest ts us at answer h count bad is (inl (tree, d, value)) =
+    (Syntax at, (ts, rest, h, whole_begins ts tree (subst (λ vs. IsStatement (lexemes vs) tree) is d), inr (inr (bad, at, count, refl))), value)
+stopped text rest ts us at answer h count bad is (inr (left, fails, value)) = (
+  cause_of ts left at,
+  failed text rest ts at left h (subst (λ vs. FailsAt IsStatement (lexemes vs) left) is fails) (λ none begins. (ts, rest, h, begins, inr (inr (bad, at, count, refl)))),
+  value ∙ ap (λ vs. stmt.Wrong (cause_of vs left at)) is,
+)
+
+pub of_part : (text rest : List ℕ) (ts us : List Spanned) (at : ℕ) (answer : Stmt) → Reads 0 text ts rest → at + length rest ≡ length text → NoToken rest ⊎ WideFirst rest → IsTokens (take at text) us → OfFront us at answer → Refused text answer
+of_part text rest ts us at answer h count bad tokens of_front =
+    stopped text rest ts us at answer h count bad (one_list (take at text) ts us (cut_tokens text rest ts at h count) tokens) of_front
