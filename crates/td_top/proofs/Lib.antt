@@ -1,9 +1,4 @@
-pub mod Digits
-pub mod Front
-pub mod Grammar
 pub mod Streams
-pub mod Turns
-pub mod Plays
-pub mod Tells
-pub mod Clocks
 pub mod Complete
+pub mod Clocks
+pub mod Runs

@@ -10,4 +10,4 @@ exit_number status.Usage = 2
 exit_number status.TooLarge = 4
 exit_number status.InputFault = 5
 exit_number status.OutputFault = 6
-exit_number (status.NotBuilt line) = 10
+exit_number (status.BadScript line) = 3

@@ -1,6 +1,5 @@
-pub mod Fault
-pub mod Parse
+pub mod Asks
+pub mod Moment
 pub mod Stream
-pub mod Turn
 pub mod Status
 pub mod Exit

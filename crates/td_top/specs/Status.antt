@@ -4,11 +4,10 @@ use Rattle.std.specs.Str.{bytes_eq}
 use lib.Chars.{codes}
 use Rattle.std.specs.Io.KnownBytes.{Appends, Keeps}
 use Rattle.td_outside.specs.Causes.{Rose}
-use Rattle.td_model.specs.declared.forms.Form.{Form}
 use Rattle.td_model.specs.declared.report.Report.{Report}
-use Rattle.td_model.specs.State.{empty_state}
-use Rattle.td_model.specs.Script.{IsScript, FirstOutside}
-use Rattle.td_model.specs.Told.{ToldInOrder}
+use Rattle.td_script.specs.declared.lines.Line.{Line}
+use Rattle.td_script.specs.Script.{IsScript, FirstOutside}
+use Rattle.td_top.specs.Asks.{TellsLines}
 use Rattle.td_model.specs.Text.{report_text}
 use Rattle.td_top.specs.Stream.{ReadWhole, ReadTooMuch, WroteFront}
 use Rattle.td_top.specs.declared.status.Status.{Status}
@@ -37,15 +36,15 @@ pub record Outside : Type 0 where
 abbrev pub outside : Option (List ℕ) → ℕ → Option (List ℕ) → ℕ → Outside
 outside left input_faults written output_faults = record { left = left; input_faults = input_faults; written = written; output_faults = output_faults }
 
--- The input was read to its end and is a script, and the text is that of one report, which tells the script's run in the
--- order of its lines, from the empty state on.
+-- The input was read to its end and is a script, whose lines ask for statements, and the text is that of one report, which
+-- tells their run in the order of the lines, from the empty state on.
 pub record Tells (readings left left' : Option (List ℕ)) (text : List ℕ) : Type 0 where
   pub bytes : List ℕ
   pub read : ReadWhole left left' bytes
-  pub script : List Form
-  pub is_script : IsScript bytes script
+  pub lines : List Line
+  pub is_script : IsScript bytes lines
   pub report : Report
-  pub told : ToldInOrder empty_state readings script report
+  pub told : TellsLines readings lines report
   pub text_is : text ≡ report_text report
 
 -- Why a run ended with this status before its report was written.
@@ -54,7 +53,7 @@ Ended left left' count count' status.Done = ⊥
 Ended left left' count count' status.NoMemory = count' ≡ count
 Ended left left' count count' status.Usage = ⊥
 Ended left left' count count' status.TooLarge = ReadTooMuch left left' × (count' ≡ count)
-Ended left left' count count' (status.NotBuilt line) = (bytes : List ℕ) × ReadWhole left left' bytes × FirstOutside bytes line × (count' ≡ count)
+Ended left left' count count' (status.BadScript line) = (bytes : List ℕ) × ReadWhole left left' bytes × FirstOutside bytes line × (count' ≡ count)
 Ended left left' count count' status.InputFault = Rose count count'
 Ended left left' count count' status.OutputFault = ⊥
 
@@ -68,7 +67,7 @@ Says readings before after status.Done = (text : List ℕ) × Tells readings bef
 Says readings before after status.NoMemory = Ended before.left after.left before.input_faults after.input_faults status.NoMemory × WroteNothing before after
 Says readings before after status.Usage = ⊥
 Says readings before after status.TooLarge = Ended before.left after.left before.input_faults after.input_faults status.TooLarge × WroteNothing before after
-Says readings before after (status.NotBuilt line) = Ended before.left after.left before.input_faults after.input_faults (status.NotBuilt line) × WroteNothing before after
+Says readings before after (status.BadScript line) = Ended before.left after.left before.input_faults after.input_faults (status.BadScript line) × WroteNothing before after
 Says readings before after status.InputFault = Ended before.left after.left before.input_faults after.input_faults status.InputFault × WroteNothing before after
 Says readings before after status.OutputFault = (text : List ℕ) × Tells readings before.left after.left text × WroteFront before.written after.written text × Rose before.output_faults after.output_faults × (after.input_faults ≡ before.input_faults)
 
@@ -79,9 +78,9 @@ IsUnlessMemory s wanted = (s ≡ wanted) ⊎ (s ≡ status.NoMemory)
 -- Over a source that tells its bytes and doesn't fail, the bytes determine the status, but for want of memory and a sink that fails.
 pub record Completes (before after : Outside) (s : Status) : Type 0 where
   -- a script within the limit is played, where the sink doesn't fail either
-  pub done : (bytes : List ℕ) (script : List Form) → before.left ≡ Some bytes → IsScript bytes script → length bytes ≤ 67108864 → ¬ (Rose before.input_faults after.input_faults) → ¬ (Rose before.output_faults after.output_faults) → IsUnlessMemory s status.Done
-  -- the first line outside the forms is named
-  pub not_built : (bytes : List ℕ) (line : ℕ) → before.left ≡ Some bytes → FirstOutside bytes line → length bytes ≤ 67108864 → ¬ (Rose before.input_faults after.input_faults) → IsUnlessMemory s (status.NotBuilt line)
+  pub done : (bytes : List ℕ) (lines : List Line) → before.left ≡ Some bytes → IsScript bytes lines → length bytes ≤ 67108864 → ¬ (Rose before.input_faults after.input_faults) → ¬ (Rose before.output_faults after.output_faults) → IsUnlessMemory s status.Done
+  -- the first line of no form is named
+  pub bad_script : (bytes : List ℕ) (line : ℕ) → before.left ≡ Some bytes → FirstOutside bytes line → length bytes ≤ 67108864 → ¬ (Rose before.input_faults after.input_faults) → IsUnlessMemory s (status.BadScript line)
   -- too many bytes are too large, whatever they are
   pub too_large : (bytes : List ℕ) → before.left ≡ Some bytes → 67108864 < length bytes → ¬ (Rose before.input_faults after.input_faults) → IsUnlessMemory s status.TooLarge
 
@@ -91,6 +90,6 @@ writes status.Done = true
 writes status.NoMemory = false
 writes status.Usage = false
 writes status.TooLarge = false
-writes (status.NotBuilt line) = false
+writes (status.BadScript line) = false
 writes status.InputFault = false
 writes status.OutputFault = true

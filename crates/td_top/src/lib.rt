@@ -5,19 +5,15 @@
 //! lines: one history of entries, each the acceptance of a statement in the state before it, and each reply what a state of
 //! that history gives. Each other status has its cause, and over a source that tells its bytes they determine the status.
 //!
-//! `parse` reads scripts, `status` has the statuses with their exit numbers and lines, `state` keeps tables and rows and judges a statement, `stream` reads a whole source and writes a
-//! whole text, `top` plays. The crate stands on `td_model` for the definitions, `td_report` for the text of a report, and
-//! `td_outside` for the devices.
+//! `status` has the statuses with their exit numbers and lines, `stream` reads a whole source and writes a whole text, `top`
+//! plays. The crate stands on `td_script` and `td_parse`, which read, on `td_tables`, which has the state, on `td_told` for the
+//! definitions, on `td_report` for the text of a report, and on `td_outside` for the devices.
 #![tactic(auto)]
 
-mod parse;
-mod state;
 mod status;
 mod stream;
 mod top;
 
 pub use status::Status;
-pub use top::{play, play_script, vnode};
+pub use top::{play, play_lines, vnode};
 
-#[cfg(test)]
-mod tests;

@@ -13,10 +13,10 @@ pub enum Status {
     NoMemory,
     /// The words aren't a command. Nothing was read or written.
     Usage,
+    /// The line, from 1, is the first that no script has. Nothing was written.
+    BadScript(u64),
     /// More than 67108864 bytes stand before the input's end. Nothing was written.
     TooLarge,
-    /// The line, from 1, is the first that is of no form that is built. Nothing was written.
-    NotBuilt(u64),
     /// A read failed. Nothing was written.
     InputFault,
     /// A write failed. What was written is a front of the report.
@@ -32,10 +32,10 @@ impl Status {
             Status::Done => 0,
             Status::NoMemory => 1,
             Status::Usage => 2,
+            Status::BadScript(_) => 3,
             Status::TooLarge => 4,
             Status::InputFault => 5,
             Status::OutputFault => 6,
-            Status::NotBuilt(_) => 10,
         }
     }
 }
@@ -47,8 +47,8 @@ impl fmt::Display for Status {
             Status::Done => Ok(()),
             Status::NoMemory => f.write_str("no memory"),
             Status::Usage => f.write_str("usage: td_vnode play DIR, run DIR, gen N DIR"),
+            Status::BadScript(line) => write!(f, "bad script: line {line}"),
             Status::TooLarge => f.write_str("script too large"),
-            Status::NotBuilt(line) => write!(f, "not built: line {line}"),
             Status::InputFault => f.write_str("input fault"),
             Status::OutputFault => f.write_str("output fault"),
         }

@@ -1,27 +1,35 @@
 //! The top call: reads a script, plays it, writes the report.
-ghost use Rattle.std.specs.Prelude.{◌≡◌, ◌<◌, ◌↔◌, ◌^◌, ◌++◌, ◌∷◌, [], true, false, map, None, IfOk, IfErr, OnOk, IsSome, string_bytes, length};
-ghost use Rattle.td_model.specs.State.{empty_state};
-ghost use Rattle.td_model.specs.Told.{ToldInOrder};
-ghost use Rattle.td_top.specs.Turn.{TakesMoment, reply_line_at, as_list};
+ghost use Rattle.std.specs.Prelude.{◌≡◌, ◌<◌, ◌+◌, ◌↔◌, ◌^◌, ◌++◌, ◌∷◌, [], true, false, map, None, IfOk, IfErr, OnOk, IsSome, string_bytes, length};
+ghost use Rattle.td_script.specs.Script.{Numbered};
+ghost use Rattle.td_told.specs.Turn.{reply_line_at, as_list};
+ghost use Rattle.td_top.specs.Asks.{TellsLines};
+ghost use Rattle.td_top.specs.Moment.{TakesMoment, TurnOf};
 ghost use Rattle.td_top.specs.Stream.{TookFew};
 ghost use Rattle.td_top.specs.Status.{Tells, is_dir, dir_of, outside, Ended, Says, Completes, writes};
 
-use crate::parse::{ScriptFault, script_of};
-use crate::state::Tables;
 use crate::status::Status;
 use crate::stream::{ReadFault, read_all, write_all};
 use std::alloc::Global;
 use std::sync::Wait;
 use std::thread::Threads;
 use td_layer::{NoMem, Seq};
-use td_model::{Form, JournalLine, Reply, Report};
+use td_model::{JournalLine, Reply, Report, Stmt};
 use td_outside::{Clock, Failed, Gate, Place, Sink, Source};
+use td_parse::statement;
 use td_report::report;
+use td_script::{Line, ScriptFault, script};
+use td_tables::{OrderedRows, RowMap, Tables, Turn};
+use td_told::reads_clock;
 
-fn push_reply(replies: &mut Seq<(u32, u32, Reply)>, ordinal: u32, reply: Reply) -> Result<(), NoMem>
-    ensures { OnOk result (replies.new ≡ replies.old ++ reply_line_at ordinal reply ∷ []) }
+fn push_reply(
+    replies: &mut Seq<(u32, u32, Reply)>,
+    session: u32,
+    ordinal: u32,
+    reply: Reply,
+) -> Result<(), NoMem>
+    ensures { OnOk result (replies.new ≡ replies.old ++ reply_line_at session ordinal reply ∷ []) }
 {
-    if replies.push((1, ordinal, reply)).is_err() {
+    if replies.push((session, ordinal, reply)).is_err() {
         return Err(NoMem);
     }
     Ok(())
@@ -38,32 +46,56 @@ fn push_line(journal: &mut Seq<JournalLine>, line: Option<JournalLine>) -> Resul
     Ok(())
 }
 
-// The moment of a statement's turn, which isn't before the floor: of a write a reading of the clock, which a query doesn't read.
-fn moment_of<C: Clock>(form: &Form, floor: u64, clock: &mut C) -> u64
-    ensures { TakesMoment form.now (C.readings clock.old) (C.readings clock.new) floor result }
+// The moment of a statement's turn, which isn't before the floor.
+fn moment_of<C: Clock>(stmt: &Stmt, floor: u64, clock: &mut C) -> u64
+    ensures { TakesMoment stmt.now (C.readings clock.old) (C.readings clock.new) floor result }
 {
-    match form {
-        Form::MakeTable | Form::Insert { .. } => clock.now().max(floor),
-        Form::Select => floor,
+    if reads_clock(stmt) {
+        clock.now().max(floor)
+    } else {
+        floor
     }
 }
 
-/// Plays the statements of a script in their order, from no table on. A write reads the clock once, and a query not at all;
-/// the moments are the clock's readings, and don't fall where these do. The answer is the report, or want of memory for it.
-pub fn play_script<C: Clock>(alloc: Global, script: &[Form], clock: &mut C) -> Result<Report, NoMem>
-    requires { length script.now < 2 ^ 32 }
-    ensures { IfOk result (λ r. ToldInOrder empty_state (C.readings clock.old) script.now r) }
+// A line's turn: its text is read as a statement, which has its turn on the tables at its moment.
+fn turn_of<M: RowMap, C: Clock>(
+    alloc: Global,
+    tables: &mut Tables<M>,
+    line: &Line,
+    floor: u64,
+    clock: &mut C,
+) -> Result<(u64, Turn), NoMem>
+    requires { tables.old.version + 1 < 2 ^ 64 }
+    ensures { IfOk result (λ r. TurnOf line.now tables.old tables.new (C.readings clock.old) (C.readings clock.new) floor r.0 r.1.reply r.1.line) }
 {
-    let mut tables = Tables::new(alloc);
+    let stmt = statement(alloc, line.text.as_slice())?;
+    let moment = moment_of(&stmt, floor, clock);
+    let turn = tables.turn(line.session, line.ordinal, moment, &stmt);
+    Ok((moment, turn))
+}
+
+/// Plays the lines of a script in their order, from no table on and over a map without rows. A write reads the clock once,
+/// and a query not at all; the moments are the clock's readings, and don't fall where these do. The answer is the report, or
+/// want of memory for it.
+pub fn play_lines<M: RowMap, C: Clock>(
+    alloc: Global,
+    rows: M,
+    lines: &[Line],
+    clock: &mut C,
+) -> Result<Report, NoMem>
+    requires few { length lines.now < 2 ^ 32 }
+    requires numbered { Numbered [] lines.now }
+    requires empty { M.rows rows ≡ [] }
+    ensures { IfOk result (λ r. TellsLines (C.readings clock.old) lines.now r) }
+{
+    let mut tables = Tables::new(alloc, rows);
     let mut replies = Seq::new(alloc);
     let mut journal = Seq::new(alloc);
     let mut floor = 0;
-    for (i, form) in script.iter().enumerate() {
-        let ordinal = i as u32 + 1;
-        let moment = moment_of(form, floor, clock);
+    for line in lines {
+        let (moment, turn) = turn_of(alloc, &mut tables, line, floor, clock)?;
         floor = moment;
-        let turn = tables.turn(ordinal, moment, form);
-        push_reply(&mut replies, ordinal, turn.reply)?;
+        push_reply(&mut replies, line.session, line.ordinal, turn.reply)?;
         push_line(&mut journal, turn.line)?;
     }
     Ok(Report {
@@ -91,12 +123,12 @@ fn report_of<I: Source, C: Clock>(
         Err(ReadFault::TooLarge) => return Err(Status::TooLarge),
         Err(ReadFault::Input) => return Err(Status::InputFault),
     };
-    let script = match script_of(alloc, bytes.as_slice()) {
-        Ok(script) => script,
+    let lines = match script(alloc, bytes.as_slice()) {
+        Ok(lines) => lines,
         Err(ScriptFault::NoMemory) => return Err(Status::NoMemory),
-        Err(ScriptFault::NotBuilt(line)) => return Err(Status::NotBuilt(line)),
+        Err(ScriptFault::BadScript(line)) => return Err(Status::BadScript(line)),
     };
-    let Ok(told) = play_script(alloc, script.as_slice(), clock) else {
+    let Ok(told) = play_lines(alloc, OrderedRows::new(alloc), lines.as_slice(), clock) else {
         return Err(Status::NoMemory);
     };
     match report(alloc, &told) {

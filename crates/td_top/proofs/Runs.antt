@@ -1,0 +1,84 @@
+-- How far a script has been played.
+use Rattle.std.proofs.Common.{◌≡◌, ℕ, ◌+◌, ◌≤◌, ◌<◌, ◌==◌, cond, take, get_or, List, [], ◌∷◌, ◌++◌, length, Option, Some, None, refl, sym, ap, ◌∙◌, subst, arith}
+use Rattle.std.specs.List.{count_by}
+use Rattle.std.proofs.lemmas.List.{take_more}
+use Rattle.td_script.specs.declared.lines.Line.{Line}
+use Rattle.td_script.specs.Script.{Numbered}
+use Rattle.td_model.specs.declared.report.JournalLine.{JournalLine}
+use Rattle.td_model.specs.declared.report.Reply.{Reply}
+use Rattle.td_model.specs.State.{State, empty_state}
+use Rattle.td_told.specs.Asked.{Asked, count_of, Counted}
+use Rattle.td_told.specs.Turn.{reads, reply_line_at, as_list}
+use Rattle.td_told.specs.Told.{ToldInOrder}
+use Rattle.td_told.proofs.Plays.{Plays, MayBe, plays_next, nothing_played, reads_more}
+use Rattle.td_told.proofs.Tells.{told_of_plays}
+use Rattle.td_top.specs.Asks.{Asks, AsksAll, TellsLines}
+use Rattle.td_top.specs.Moment.{TurnOf}
+use Rattle.td_top.proofs.Clocks.{MomentIs, Taken, turn_taken, left_first, moment_first, times}
+
+asks_more : (ls : List Line) (script : List Asked) (l : Line) (a : Asked) → AsksAll ls script → Asks l a → AsksAll (ls ++ l ∷ []) (script ++ a ∷ [])
+asks_more [] [] l a all one = (one, tt)
+asks_more [] (b ∷ script) l a all one = absurd all
+asks_more (k ∷ ls) [] l a all one = absurd all
+asks_more (k ∷ ls) (b ∷ script) l a all one = (all.0, asks_more ls script l a all.1 one)
+
+same_count : (session : ℕ) (ls : List Line) (script : List Asked) → AsksAll ls script → count_of session script ≡ count_by (λ (m : Line). m.session == session) ls
+same_count session [] [] all = refl
+same_count session [] (b ∷ script) all = absurd all
+same_count session (k ∷ ls) [] all = absurd all
+same_count session (k ∷ ls) (b ∷ script) all =
+    ap (λ s. cond (s == session) (count_of session script + 1) (count_of session script)) all.0.session
+    ∙ ap (λ n. cond (k.session == session) (n + 1) n) (same_count session ls script all.1)
+    ∙ elim (k.session == session) as (λ b. cond b (count_by (λ (m : Line). m.session == session) ls + 1) (count_by (λ (m : Line). m.session == session) ls) ≡ cond b 1 0 + count_by (λ (m : Line). m.session == session) ls) [ true ↦ omega arith | false ↦ refl ]
+
+-- the statements of numbered lines are counted
+counted_of : (before ls : List Line) (front script : List Asked) → AsksAll before front → AsksAll ls script → Numbered before ls → Counted front script
+counted_of before [] front [] done all n = tt
+counted_of before [] front (b ∷ script) done all n = absurd all
+counted_of before (k ∷ ls) front [] done all n = absurd all
+counted_of before (k ∷ ls) front (a ∷ script) done all n =
+    let here : a.ordinal ≡ count_of a.session front + 1 =
+        all.0.ordinal ∙ n.2 ∙ ap (λ c. c + 1) (sym (same_count k.session before front done) ∙ ap (λ s. count_of s front) (sym all.0.session)) in
+    (here, counted_of (before ++ k ∷ []) ls (front ++ a ∷ []) script (asks_more before front k a done all.0) all.1 n.3)
+
+-- What the lines so far, of which there are n, have given.
+pub record Progress (readings now : Option (List ℕ)) (lines : List Line) (rs : List (ℕ × ℕ × Reply)) (js : List JournalLine) (t : State) (floor n : ℕ) : Type 0 where
+  pub script : List Asked
+  pub asks : AsksAll lines script
+  pub played : Plays (MomentIs readings) 0 empty_state script rs js t
+  pub taken : Taken readings (reads script) now floor
+  pub early : t.moment ≤ floor
+  pub few : t.version ≤ n
+
+pub begun : (readings : Option (List ℕ)) (rs : List (ℕ × ℕ × Reply)) (js : List JournalLine) (t : State) → rs ≡ [] → js ≡ [] → t ≡ empty_state → Progress readings readings [] rs js t 0 0
+begun readings rs js t replies journal state = record {
+  script = [];
+  asks = tt;
+  played = nothing_played (MomentIs readings) 0 empty_state t rs js replies journal state;
+  taken = record { left = left_first readings; moment = moment_first readings; most = omega arith };
+  early = omega (arith, ap (λ (s : State). s.moment) state);
+  few = omega (arith, ap (λ (s : State). s.version) state);
+}
+
+pub goes_on : (readings now now' : Option (List ℕ)) (lines : List Line) (rs rs' : List (ℕ × ℕ × Reply)) (js js' : List JournalLine) (t t' : State) (floor n m : ℕ) (l : Line) (r : Reply) (line : Option JournalLine) → Progress readings now lines rs js t floor n → TurnOf l t t' now now' floor m r line → rs' ≡ rs ++ reply_line_at l.session l.ordinal r ∷ [] → js' ≡ js ++ as_list line → Progress readings now' (lines ++ l ∷ []) rs' js' t' m (n + 1)
+goes_on readings now now' lines rs rs' js js' t t' floor n m l r line p turn replies journal =
+    let a = turn.asked in
+    let taken = turn_taken a.stmt readings (reads p.script) now now' floor m p.taken turn.takes in
+    let may : MayBe (MomentIs readings) t _ m = (omega (arith, p.early, taken.later), taken.taken.most, taken.taken.moment) in
+    let own : rs' ≡ rs ++ reply_line_at a.session a.ordinal r ∷ [] = rw (turn.asks.session, turn.asks.ordinal) replies in
+    let left = plays_next (MomentIs readings) p.script m a empty_state t t' rs rs' js js' line r p.played may own journal turn.answers in
+    record {
+      script = p.script ++ a ∷ [];
+      asks = asks_more lines p.script l a p.asks turn.asks;
+      played = left.played;
+      taken = subst (λ c. Taken readings c now' m) (sym (reads_more p.script a)) taken.taken;
+      early = left.floor;
+      few = omega (arith, left.counted, p.few);
+    }
+
+pub told : (readings now : Option (List ℕ)) (lines : List Line) (rs : List (ℕ × ℕ × Reply)) (js : List JournalLine) (t : State) (floor n : ℕ) → Numbered [] lines → Progress readings now lines rs js t floor n → TellsLines readings lines (record { base = 0; replies = rs; streams = []; journal = js })
+told readings now lines rs js t floor n numbered p = record {
+  script = p.script;
+  asks = p.asks;
+  told = told_of_plays (MomentIs readings) empty_state readings (times readings) p.script rs js t (counted_of [] lines [] p.script tt p.asks numbered) p.played;
+}

@@ -1,9 +1,0 @@
-use Rattle.std.proofs.Common.{sym, ap, ◌∙◌}
-use Rattle.td_model.specs.State.{State}
-use Rattle.td_top.proofs.Turns.{accepted_turn}
-use Rattle.td_top.proofs.state.Tables.judged.Goals as goal
-
-pub returns-in_ok-accept-in-Accept-clause-turn : goal.returns-in_ok-accept-in-Accept-clause-turn
-returns-in_ok-accept-in-Accept-clause-turn c =
-    accepted_turn _ c.args.self.now c.accept.new.self c.args.ordinal c.args.moment c.self-in-Accept.inside.version c.in-Accept.rows c.in-Accept.what c.accepted_reply.result
-    (sym c.in_ok-what.ensures ∙ c.in-Accept.is) (c.in_ok-accept-in-Accept.ensures.ok 1 c.args.ordinal) (ap (λ (s : State). s.version) c.self-in-Accept.view_is) c.accepted_reply.ensures
