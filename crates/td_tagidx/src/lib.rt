@@ -10,6 +10,7 @@
 
 mod cells;
 mod index;
+mod slots;
 #[cfg(test)]
 mod tests;
 
