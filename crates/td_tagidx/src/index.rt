@@ -77,8 +77,10 @@ impl TagIndex {
         }
     }
 
-    /// Takes the memory that a subtable needs, and gives the change that [`TagIndex::add`] can then make without memory. The index
-    /// keeps its subtables, also where there is no memory.
+    /// Takes the memory that adding a subtable needs, and gives the change that [`TagIndex::add`] can then make without memory. The
+    /// index keeps its subtables, also where there is no memory.
+    ///
+    /// The subtable added before is put in order now, with its tags: each moves those behind it.
     pub fn prepare(&mut self, table: u32, tags: &[Cell]) -> Result<TagChange, NoMem>
         requires { IsAbsent table self.old.subtables }
         ensures unchanged { self.new.subtables ≡ self.old.subtables }
