@@ -1,5 +1,5 @@
 -- The tags that pass a comparison are those between its edges.
-use Rattle.std.proofs.Common.{◌≡◌, ℕ, ℤ, pos, zero, suc, ◌+◌, ◌<◌, ◌≤◌, Bool, true, false, not, cond, List, [], ◌∷◌, map, filter, sum_by, slice_get, ◌==◌, is_lt, Option, Some, None, refl, sym, ap, subst, ◌∙◌, arith, inl, inr}
+use Rattle.std.proofs.Common.{◌≡◌, ℕ, zero, suc, ◌+◌, ◌<◌, Bool, true, false, not, cond, List, [], ◌∷◌, map, filter, sum_by, slice_get, ◌==◌, is_lt, Option, Some, None, refl, sym, ap, ◌∙◌, arith}
 use Rattle.std.specs.Option.{unwrap_or, option_map_or}
 use Rattle.std.specs.Ordering.{nat_cmp, int_cmp, is_le, is_eq, ordering_then}
 use Rattle.std.specs.Cmp.Lexicographic.{slice_cmp}
@@ -17,7 +17,7 @@ use Rattle.td_tagidx.specs.declared.slots.Slot.{Slot}
 use Rattle.td_tagidx.specs.declared.slots.Edge.{Edge}
 use Rattle.td_tagidx.specs.declared.slots.Edge.TheVariants as edge
 use Rattle.td_tagidx.specs.Subtables.{subtable_of}
-use Rattle.td_tagidx.specs.Slots.{Tag, tag_of, kind_of, is_comparable, number_or_nought, text_or_empty, kind_order, tag_order, precedes, between, slots_from, slots_of, HasSame}
+use Rattle.td_tagidx.specs.Slots.{Tag, tag_of, kind_of, is_comparable, number_or_nought, text_or_empty, kind_order, precedes, between, slots_from, slots_of, HasSame}
 use Rattle.td_tagidx.specs.Runs.{edges_of}
 use Rattle.td_tagidx.specs.Inside.{IsFiled}
 use Rattle.td_tagidx.proofs.Bags.{sum-map, sum-filter, sum-same}

@@ -9,7 +9,7 @@ ghost use Rattle.td_tagidx.specs.Inside.{IsFiled};
 ghost use Rattle.td_tagidx.specs.Runs.{edges_of};
 
 use crate::cells::{is_comparable, tag_matches};
-use crate::slots::{between, put_all, slots_of, tables_of, Edge, Slot};
+use crate::slots::{Edge, Slot, between, put_all, slots_of, tables_of};
 use std::alloc::Global;
 use std::marker::Model;
 use td_layer::{Cell, Copied, NoMem, Seq};

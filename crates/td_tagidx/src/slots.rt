@@ -64,7 +64,13 @@ fn count_before(slots: &[Slot], edge: Edge, place: usize, cell: &Cell) -> usize
 }
 
 // The slots between two edges.
-pub(crate) fn between<'a>(slots: &'a [Slot], from: Edge, to: Edge, place: usize, cell: &Cell) -> &'a [Slot]
+pub(crate) fn between<'a>(
+    slots: &'a [Slot],
+    from: Edge,
+    to: Edge,
+    place: usize,
+    cell: &Cell,
+) -> &'a [Slot]
     requires { IsInTagOrder slots.now }
     ensures { result.now ≡ between from to (place, cell.now) slots.now }
 {

@@ -1,4 +1,4 @@
-use Rattle.std.proofs.Common.{◌≡◌, ℕ, List, map, IfOk, Some, sum_by, sym, ap, ◌∙◌}
+use Rattle.std.proofs.Common.{◌≡◌, map, sum_by, sym, ap, ◌∙◌}
 use Rattle.std.proofs.lemmas.Result.{IfOk-weaker}
 use Rattle.td_model.specs.Tags.{matching}
 use Rattle.td_tagidx.specs.declared.slots.Slot.{Slot}

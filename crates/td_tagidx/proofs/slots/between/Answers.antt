@@ -1,4 +1,4 @@
-use Rattle.std.proofs.Common.{◌≡◌, ℕ, ◌-◌, List, filter, length, take, drop, sym, ap, ◌∙◌}
+use Rattle.std.proofs.Common.{ℕ, ◌-◌, List, filter, length, take, drop, sym, ap, ◌∙◌}
 use Rattle.std.proofs.lemmas.List.{take_rest}
 use Rattle.td_tagidx.specs.declared.slots.Slot.{Slot}
 use Rattle.td_tagidx.specs.Slots.{Tag, precedes}
