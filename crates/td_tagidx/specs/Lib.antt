@@ -1,3 +1,5 @@
 pub mod Indexed
 pub mod Subtables
+pub mod Slots
+pub mod Runs
 pub mod Inside

@@ -4,6 +4,7 @@ ghost use Rattle.std.specs.Option.{option_map_or, option_copied};
 ghost use Rattle.std.specs.Ordering.{nat_cmp};
 ghost use Rattle.std.specs.Cmp.Lexicographic.{slice_cmp};
 ghost use Rattle.td_model.specs.Tags.{number_of, text_of, is_null, order_of, passes, compares, cell_matches, tag_matches};
+ghost use Rattle.td_tagidx.specs.Slots.{kind_of, is_comparable, number_or_nought, text_or_empty};
 
 use std::cmp::Ordering;
 use td_layer::{Cell, Seq};
@@ -91,5 +92,44 @@ pub(crate) fn tag_matches(tags: &Seq<Cell>, tag: usize, op: Op, lit: &Cell) -> b
     match tags.get(tag) {
         None => false,
         Some(cell) => cell_matches(op, cell, lit),
+    }
+}
+
+// The rank of a cell's kind: NULL, numbers, quotients, texts.
+pub(crate) fn kind_of(cell: &Cell) -> u8
+    ensures { result ≡ kind_of cell.now }
+{
+    match cell {
+        Cell::Null => 0,
+        Cell::Truth(_) | Cell::Num(_) => 1,
+        Cell::Frac { .. } => 2,
+        Cell::Str(_) => 3,
+    }
+}
+
+// Whether cells of this one's kind compare.
+pub(crate) fn is_comparable(cell: &Cell) -> bool
+    ensures { result ≡ is_comparable cell.now }
+{
+    match cell {
+        Cell::Truth(_) | Cell::Num(_) | Cell::Str(_) => true,
+        Cell::Null | Cell::Frac { .. } => false,
+    }
+}
+
+// The number that a cell counts as, and 0 where there is none.
+pub(crate) fn number_or_nought(cell: &Cell) -> i128
+    ensures { result ≡ number_or_nought cell.now }
+{
+    number_of(cell).unwrap_or(0)
+}
+
+// The bytes of a text, and none where there is no text.
+pub(crate) fn text_or_empty(cell: &Cell) -> &[u8]
+    ensures { result.now ≡ text_or_empty cell.now }
+{
+    match cell {
+        Cell::Str(text) => text.as_slice(),
+        Cell::Null | Cell::Truth(_) | Cell::Num(_) | Cell::Frac { .. } => &[],
     }
 }

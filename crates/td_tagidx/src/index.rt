@@ -1,10 +1,15 @@
 //! The index, and changes of it.
-ghost use Rattle.std.specs.Prelude.{◌≡◌, [], ℕ, map, IfOk};
+ghost use Rattle.std.specs.Prelude.{◌≡◌, [], ℕ, ◌+◌, ◌<◌, map, IfOk, OnOk, vec_len, vec_capacity, sum_by, IsSortedByKey};
+ghost use Rattle.std.specs.Ordering.{nat_cmp};
 ghost use Rattle.td_model.specs.Tags.{matching};
 ghost use Rattle.td_tagidx.specs.Indexed.{IsAbsent, with_subtable, IsReadyFor};
 ghost use Rattle.td_tagidx.specs.Subtables.{subtable_of};
+ghost use Rattle.td_tagidx.specs.Slots.{HasSame};
+ghost use Rattle.td_tagidx.specs.Inside.{IsFiled};
+ghost use Rattle.td_tagidx.specs.Runs.{edges_of};
 
-use crate::cells::tag_matches;
+use crate::cells::{is_comparable, tag_matches};
+use crate::slots::{Edge, Slot, between, put_all, slots_of, tables_of};
 use std::alloc::Global;
 use std::marker::Model;
 use td_layer::{Cell, Copied, NoMem, Seq};
@@ -39,7 +44,12 @@ impl Model for TagChange {
 #[derive(Drop)]
 pub struct TagIndex {
     alloc: Global,
+    // all subtables but the last one added, by number
     subtables: Vec<Subtable>,
+    // their tags, by cell
+    slots: Vec<Slot>,
+    // the last one added, until the next change is prepared: so `add` takes no memory
+    last: Option<Subtable>,
 }
 
 impl Model for TagIndex {
@@ -47,13 +57,11 @@ impl Model for TagIndex {
 
     ghost Value = { Indexed };
 
-    ghost use Rattle.std.specs.Prelude.{IsSortedByKey};
-    ghost use Rattle.std.specs.Ordering.{nat_cmp};
-    ghost use Rattle.td_tagidx.specs.Inside.{indexed_of};
+    ghost use Rattle.td_tagidx.specs.Inside.{indexed_of, IsKept};
 
     ghost view = { indexed_of };
 
-    ghost invariant = { λ a. IsSortedByKey (λ s. s.table) nat_cmp a.subtables.items };
+    ghost invariant = { IsKept };
 }
 
 impl TagIndex {
@@ -64,18 +72,22 @@ impl TagIndex {
         TagIndex {
             alloc,
             subtables: Vec::new(alloc),
+            slots: Vec::new(alloc),
+            last: None,
         }
     }
 
-    /// Takes the memory that a subtable needs, and gives the change that [`TagIndex::add`] can then make without memory. The index
-    /// keeps its subtables, also where there is no memory.
+    /// Takes the memory that adding a subtable needs, and gives the change that [`TagIndex::add`] can then make without memory. The
+    /// index keeps its subtables, also where there is no memory.
+    ///
+    /// The subtable added before is put in order now, with its tags: each moves those behind it.
     pub fn prepare(&mut self, table: u32, tags: &[Cell]) -> Result<TagChange, NoMem>
         requires { IsAbsent table self.old.subtables }
         ensures unchanged { self.new.subtables ≡ self.old.subtables }
         ensures change { IfOk result (λ change. change ≡ (table, tags.now)) }
         ensures ready { IfOk result (λ change. IsReadyFor change self.new) }
     {
-        self.subtables.reserve(1)?;
+        self.file()?;
         let tags = copy_of(self.alloc, tags)?;
         Ok(TagChange {
             subtable: Subtable { table, tags },
@@ -88,18 +100,90 @@ impl TagIndex {
         ensures { self.new.subtables ≡ with_subtable change self.old.subtables }
     {
         let TagChange { subtable } = change;
-        let table = subtable.table;
-        let at = self.subtables.partition_point(|s| s.table < table);
-        self.subtables.insert(at, subtable).unwrap();
+        self.last = Some(subtable);
     }
 
     /// The numbers of the subtables that have a tag at a place, from 0, which passes a comparison, in number order. `IsNull` and
     /// `NotNull` don't look at the literal.
+    ///
+    /// By `=`, `<`, `<=`, `>` and `>=` it takes time that grows with the answer, which is sorted, and with the logarithm of the
+    /// number of tags; by the others, with the number of subtables.
     pub fn find(&self, tag: usize, op: Op, lit: &Cell) -> Result<Seq<u32>, NoMem>
         ensures { IfOk result (λ numbers. numbers ≡ matching tag op lit.now self.now.subtables) }
     {
-        let numbers = picked(self.alloc, self.subtables.as_slice(), tag, op, lit)?;
-        Ok(numbers)
+        let mut numbers = found(self.alloc, &self.subtables, &self.slots, tag, op, lit)?;
+        if let Some(last) = &self.last {
+            if tag_matches(&last.tags, tag, op, lit) {
+                numbers.push(last.table)?;
+            }
+        }
+        numbers.sort_unstable();
+        Ok(Seq::from_vec(self.alloc, numbers))
+    }
+
+    // Takes the last subtable in among the others, and its tags in among theirs. Where there is no memory all stay.
+    fn file(&mut self) -> Result<(), NoMem>
+        ensures unchanged { self.new.subtables ≡ self.old.subtables }
+        ensures room { OnOk result (0 < self.new.room) }
+    {
+        let slots = match &self.last {
+            None => return Ok(()),
+            Some(last) => slots_of(self.alloc, last.table, &last.tags)?,
+        };
+        self.subtables.reserve(1)?;
+        self.slots.reserve(slots.len())?;
+        if let Some(last) = self.last.take() {
+            put_subtable(&mut self.subtables, last);
+            put_all(&mut self.slots, slots);
+        }
+        Ok(())
+    }
+}
+
+// Puts a subtable in its place by number, where there is room.
+fn put_subtable(subtables: &mut Vec<Subtable>, subtable: Subtable)
+    requires numbered { IsSortedByKey (λ s. s.table) nat_cmp subtables.old.items }
+    requires absent { IsAbsent subtable.table (map subtable_of subtables.old.items) }
+    requires room { vec_len subtables.old < vec_capacity subtables.old }
+    ensures numbered { IsSortedByKey (λ s. s.table) nat_cmp subtables.new.items }
+    ensures put { map subtable_of subtables.new.items ≡ with_subtable (subtable_of subtable) (map subtable_of subtables.old.items) }
+    ensures same { (f : Subtable → ℕ) → sum_by f subtables.new.items ≡ f subtable + sum_by f subtables.old.items }
+{
+    let table = subtable.table;
+    let at = subtables.partition_point(|s| s.table < table);
+    subtables.insert(at, subtable).unwrap();
+}
+
+// The numbers of the filed subtables whose tag passes, in some order.
+fn found(
+    alloc: Global,
+    subtables: &[Subtable],
+    slots: &[Slot],
+    tag: usize,
+    op: Op,
+    lit: &Cell,
+) -> Result<Vec<u32>, NoMem>
+    requires { IsFiled subtables.now slots.now }
+    ensures { IfOk result (λ numbers. HasSame numbers.items (matching tag op lit.now (map subtable_of subtables.now))) }
+{
+    match edges_of(op) {
+        None => picked(alloc, subtables, tag, op, lit),
+        Some(_) if !is_comparable(lit) => Ok(Vec::new(alloc)),
+        Some((from, to)) => tables_of(alloc, between(slots, from, to, tag, lit)),
+    }
+}
+
+// The edges of the tags that pass a comparison with a cell, where they lie together.
+fn edges_of(op: Op) -> Option<(Edge, Edge)>
+    ensures { result ≡ edges_of op }
+{
+    match op {
+        Op::Lt => Some((Edge::KindStart, Edge::CellStart)),
+        Op::Le => Some((Edge::KindStart, Edge::CellEnd)),
+        Op::Eq => Some((Edge::CellStart, Edge::CellEnd)),
+        Op::Ge => Some((Edge::CellStart, Edge::KindEnd)),
+        Op::Gt => Some((Edge::CellEnd, Edge::KindEnd)),
+        Op::Ne | Op::IsNull | Op::NotNull => None,
     }
 }
 
@@ -121,8 +205,8 @@ fn picked(
     tag: usize,
     op: Op,
     lit: &Cell,
-) -> Result<Seq<u32>, NoMem>
-    ensures { IfOk result (λ numbers. numbers ≡ matching tag op lit.now (map subtable_of subtables.now)) }
+) -> Result<Vec<u32>, NoMem>
+    ensures { IfOk result (λ numbers. numbers.items ≡ matching tag op lit.now (map subtable_of subtables.now)) }
 {
     let mut numbers = Vec::new(alloc);
     for subtable in subtables {
@@ -130,5 +214,5 @@ fn picked(
             numbers.push(subtable.table)?;
         }
     }
-    Ok(Seq::from_vec(alloc, numbers))
+    Ok(numbers)
 }
