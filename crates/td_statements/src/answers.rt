@@ -1,5 +1,5 @@
 //! What a text is answered, as the tables write it.
-use crate::printed::push_stmt;
+use crate::printed::{Out, push_stmt};
 use std::alloc::Global;
 use std::process::Abort;
 use std::test::Fail;
@@ -9,9 +9,9 @@ use td_parse::statement;
 /// The answer of a text, printed.
 pub(crate) fn answer(alloc: Global, text: &[u8]) -> Result<Seq<u8>, NoMem> {
     let tree = statement(alloc, text)?;
-    let mut out = Seq::new(alloc);
-    push_stmt(&mut out, &tree)?;
-    Ok(out)
+    let mut out = Out::new(alloc);
+    push_stmt(&mut out, &tree);
+    out.text()
 }
 
 /// Asks that each text has the answer beside it.

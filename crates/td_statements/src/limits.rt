@@ -91,7 +91,7 @@ fn check_long(
     want: &str,
 ) -> Result<(), Fail> {
     let mut text = filled(alloc, front, filler, 1_048_570, end)?;
-    while text.len() < length {
+    for _ in text.len()..length {
         text.extend(b" ")?;
     }
     let found = answer(alloc, text.as_slice())?;
