@@ -1,7 +1,8 @@
 -- How far a script has been played.
-use Rattle.std.proofs.Common.{◌≡◌, ℕ, ◌+◌, ◌≤◌, ◌<◌, ◌==◌, cond, take, get_or, List, [], ◌∷◌, ◌++◌, length, Option, Some, None, refl, sym, ap, ◌∙◌, subst, arith}
+use Rattle.std.proofs.Common.{◌≡◌, ℕ, ◌+◌, ◌≤◌, ◌<◌, ◌==◌, Bool, true, false, cond, List, [], ◌∷◌, ◌++◌, length, Option, Some, None, refl, sym, ap, ◌∙◌, subst, arith}
 use Rattle.std.specs.List.{count_by}
 use Rattle.std.proofs.lemmas.List.{take_more}
+use Rattle.std.proofs.lemmas.List.Recursion.{is_count_by}
 use Rattle.td_script.specs.declared.lines.Line.{Line}
 use Rattle.td_script.specs.Script.{Numbered}
 use Rattle.td_model.specs.declared.report.JournalLine.{JournalLine}
@@ -22,14 +23,29 @@ asks_more [] (b ∷ script) l a all one = absurd all
 asks_more (k ∷ ls) [] l a all one = absurd all
 asks_more (k ∷ ls) (b ∷ script) l a all one = (all.0, asks_more ls script l a all.1 one)
 
-same_count : (session : ℕ) (ls : List Line) (script : List Asked) → AsksAll ls script → count_of session script ≡ count_by (λ (m : Line). m.session == session) ls
-same_count session [] [] all = refl
-same_count session [] (b ∷ script) all = absurd all
-same_count session (k ∷ ls) [] all = absurd all
-same_count session (k ∷ ls) (b ∷ script) all =
+-- the lines of a session, counted from the front
+abbrev count_lines : ℕ → List Line → ℕ
+count_lines session [] = 0
+count_lines session (l ∷ ls) = cond (l.session == session) (1 + count_lines session ls) (count_lines session ls)
+
+count_lines_is : (session : ℕ) (ls : List Line) → count_lines session ls ≡ count_by (λ (m : Line). m.session == session) ls
+count_lines_is session ls = is_count_by (count_lines session) (λ (m : Line). m.session == session) refl (λ l ls. refl) ls
+
+turned : (b : Bool) (n : ℕ) → cond b (n + 1) n ≡ cond b (1 + n) n
+turned true n = omega arith
+turned false n = refl
+
+lines_count : (session : ℕ) (ls : List Line) (script : List Asked) → AsksAll ls script → count_of session script ≡ count_lines session ls
+lines_count session [] [] all = refl
+lines_count session [] (b ∷ script) all = absurd all
+lines_count session (k ∷ ls) [] all = absurd all
+lines_count session (k ∷ ls) (b ∷ script) all =
     ap (λ s. cond (s == session) (count_of session script + 1) (count_of session script)) all.0.session
-    ∙ ap (λ n. cond (k.session == session) (n + 1) n) (same_count session ls script all.1)
-    ∙ elim (k.session == session) as (λ b. cond b (count_by (λ (m : Line). m.session == session) ls + 1) (count_by (λ (m : Line). m.session == session) ls) ≡ cond b 1 0 + count_by (λ (m : Line). m.session == session) ls) [ true ↦ omega arith | false ↦ refl ]
+    ∙ ap (λ n. cond (k.session == session) (n + 1) n) (lines_count session ls script all.1)
+    ∙ turned (k.session == session) (count_lines session ls)
+
+same_count : (session : ℕ) (ls : List Line) (script : List Asked) → AsksAll ls script → count_of session script ≡ count_by (λ (m : Line). m.session == session) ls
+same_count session ls script all = lines_count session ls script all ∙ count_lines_is session ls
 
 -- the statements of numbered lines are counted
 counted_of : (before ls : List Line) (front script : List Asked) → AsksAll before front → AsksAll ls script → Numbered before ls → Counted front script
