@@ -36,13 +36,13 @@ module _ (readings : Option (List ℕ)) (before after : Outside) where
   done_says status.OutputFault says bytes lines known is few steady calm = absurd (calm says.3)
 
   bad_script_says : (s : Status) → Says readings before after s → (bytes : List ℕ) (n : ℕ) → before.left ≡ Some bytes → FirstOutside bytes n → length bytes ≤ 67108864 → ¬ (Rose before.input_faults after.input_faults) → IsUnlessMemory s (status.BadScript n)
-  bad_script_says status.Done says bytes n known outside few steady = absurd (apart bytes says.1.lines n (subst (λ x. IsScript x says.1.lines) (known_bytes before.left after.left bytes says.1.bytes known says.1.read) says.1.is_script) outside)
+  bad_script_says status.Done says bytes n known outside few steady = absurd (apart bytes says.1.tells.lines n (subst (λ x. IsScript x says.1.tells.lines) (known_bytes before.left after.left bytes says.1.bytes known says.1.read) says.1.tells.is_script) outside)
   bad_script_says status.NoMemory says bytes n known outside few steady = inr refl
   bad_script_says status.Usage says bytes n known outside few steady = absurd says
   bad_script_says status.TooLarge says bytes n known outside few steady = absurd (too_much before.left after.left bytes known few says.0.0)
   bad_script_says (status.BadScript m) says bytes n known outside few steady = inl (ap (λ i. status.BadScript i) (one_line bytes m n (subst (λ x. FirstOutside x m) (known_bytes before.left after.left bytes says.0.0 known says.0.1) says.0.2) outside))
   bad_script_says status.InputFault says bytes n known outside few steady = absurd (steady says.0)
-  bad_script_says status.OutputFault says bytes n known outside few steady = absurd (apart bytes says.1.lines n (subst (λ x. IsScript x says.1.lines) (known_bytes before.left after.left bytes says.1.bytes known says.1.read) says.1.is_script) outside)
+  bad_script_says status.OutputFault says bytes n known outside few steady = absurd (apart bytes says.1.tells.lines n (subst (λ x. IsScript x says.1.tells.lines) (known_bytes before.left after.left bytes says.1.bytes known says.1.read) says.1.tells.is_script) outside)
 
   too_large_says : (s : Status) → Says readings before after s → (bytes : List ℕ) → before.left ≡ Some bytes → 67108864 < length bytes → ¬ (Rose before.input_faults after.input_faults) → IsUnlessMemory s status.TooLarge
   too_large_says status.Done says bytes known much steady = absurd (too_few before.left after.left bytes says.1.bytes known much says.1.read)

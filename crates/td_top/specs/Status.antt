@@ -36,16 +36,26 @@ pub record Outside : Type 0 where
 abbrev pub outside : Option (List ℕ) → ℕ → Option (List ℕ) → ℕ → Outside
 outside left input_faults written output_faults = record { left = left; input_faults = input_faults; written = written; output_faults = output_faults }
 
--- The input was read to its end and is a script, whose lines ask for statements, and the text is that of one report, which
--- tells their run in the order of the lines, from the empty state on.
-pub record Tells (readings left left' : Option (List ℕ)) (text : List ℕ) : Type 0 where
-  pub bytes : List ℕ
-  pub read : ReadWhole left left' bytes
+-- The bytes are a script, and the text is that of one report, which tells the run of the statements that its lines ask for
+-- in the order of the lines, from the empty state on.
+pub record TextTells (readings : Option (List ℕ)) (bytes text : List ℕ) : Type 0 where
   pub lines : List Line
   pub is_script : IsScript bytes lines
   pub report : Report
   pub told : TellsLines readings lines report
   pub text_is : text ≡ report_text report
+
+-- The input was read to its end, and the text tells its bytes.
+pub record Tells (readings left left' : Option (List ℕ)) (text : List ℕ) : Type 0 where
+  pub bytes : List ℕ
+  pub read : ReadWhole left left' bytes
+  pub tells : TextTells readings bytes text
+
+-- why bytes that were read have no report
+abbrev pub TextEnded : List ℕ → Status → Type 0
+TextEnded bytes status.NoMemory = Unit {0}
+TextEnded bytes (status.BadScript line) = FirstOutside bytes line
+TextEnded bytes s = ⊥
 
 -- Why a run ended with this status before its report was written.
 abbrev pub Ended : Option (List ℕ) → Option (List ℕ) → ℕ → ℕ → Status → Type 0

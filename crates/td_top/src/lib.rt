@@ -15,5 +15,7 @@ mod stream;
 mod top;
 
 pub use status::Status;
-pub use top::{play, play_lines, vnode};
+pub use top::{play, play_lines, told_of, vnode};
 
+#[cfg(test)]
+mod tests;

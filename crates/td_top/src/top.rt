@@ -1,11 +1,11 @@
 //! The top call: reads a script, plays it, writes the report.
-ghost use Rattle.std.specs.Prelude.{◌≡◌, ◌<◌, ◌+◌, ◌↔◌, ◌^◌, ◌++◌, ◌∷◌, [], true, false, map, None, IfOk, IfErr, OnOk, IsSome, string_bytes, length};
+ghost use Rattle.std.specs.Prelude.{◌≡◌, ◌<◌, ◌≤◌, ◌+◌, ◌↔◌, ◌^◌, ◌++◌, ◌∷◌, [], true, false, map, None, IfOk, IfErr, OnOk, IsSome, string_bytes, length};
 ghost use Rattle.td_script.specs.Script.{Numbered};
 ghost use Rattle.td_told.specs.Turn.{reply_line_at, as_list};
 ghost use Rattle.td_top.specs.Asks.{TellsLines};
 ghost use Rattle.td_top.specs.Moment.{TakesMoment, TurnOf};
 ghost use Rattle.td_top.specs.Stream.{TookFew};
-ghost use Rattle.td_top.specs.Status.{Tells, is_dir, dir_of, outside, Ended, Says, Completes, writes};
+ghost use Rattle.td_top.specs.Status.{Tells, TextTells, TextEnded, is_dir, dir_of, outside, Ended, Says, Completes, writes};
 
 use crate::status::Status;
 use crate::stream::{ReadFault, read_all, write_all};
@@ -106,6 +106,33 @@ pub fn play_lines<M: RowMap, C: Clock>(
     })
 }
 
+/// The text of the report of a script, over a map without rows: `BadScript` where the bytes are none, with the first line
+/// of no form, and `NoMemory` for want of memory.
+pub fn told_of<M: RowMap, C: Clock>(
+    alloc: Global,
+    rows: M,
+    bytes: &[u8],
+    clock: &mut C,
+) -> Result<Seq<u8>, Status>
+    requires few { length bytes.now ≤ 67108864 }
+    requires empty { M.rows rows ≡ [] }
+    ensures told { IfOk result (λ text. TextTells (C.readings clock.old) bytes.now text) }
+    ensures ended { IfErr result (λ status. TextEnded bytes.now status) }
+{
+    let lines = match script(alloc, bytes) {
+        Ok(lines) => lines,
+        Err(ScriptFault::NoMemory) => return Err(Status::NoMemory),
+        Err(ScriptFault::BadScript(line)) => return Err(Status::BadScript(line)),
+    };
+    let Ok(told) = play_lines(alloc, rows, lines.as_slice(), clock) else {
+        return Err(Status::NoMemory);
+    };
+    match report(alloc, &told) {
+        Ok(text) => Ok(text),
+        Err(NoMem) => Err(Status::NoMemory),
+    }
+}
+
 // The text of the report of a whole run.
 fn report_of<I: Source, C: Clock>(
     alloc: Global,
@@ -123,18 +150,7 @@ fn report_of<I: Source, C: Clock>(
         Err(ReadFault::TooLarge) => return Err(Status::TooLarge),
         Err(ReadFault::Input) => return Err(Status::InputFault),
     };
-    let lines = match script(alloc, bytes.as_slice()) {
-        Ok(lines) => lines,
-        Err(ScriptFault::NoMemory) => return Err(Status::NoMemory),
-        Err(ScriptFault::BadScript(line)) => return Err(Status::BadScript(line)),
-    };
-    let Ok(told) = play_lines(alloc, OrderedRows::new(alloc), lines.as_slice(), clock) else {
-        return Err(Status::NoMemory);
-    };
-    match report(alloc, &told) {
-        Ok(text) => Ok(text),
-        Err(NoMem) => Err(Status::NoMemory),
-    }
+    told_of(alloc, OrderedRows::new(alloc), bytes.as_slice(), clock)
 }
 
 // Plays a script from the input to the report.

@@ -2,7 +2,7 @@ use Rattle.std.proofs.Common.{List, [], sym, subst}
 use Rattle.td_script.specs.declared.lines.Line.{Line}
 use Rattle.td_script.specs.Script.{Numbered}
 use Rattle.td_script.proofs.Whole.{numbered}
-use Rattle.td_top.proofs.top.report_of.Goals as goal
+use Rattle.td_top.proofs.top.told_of.Goals as goal
 
 pub play_lines-requires-clause-numbered : goal.play_lines-requires-clause-numbered
-play_lines-requires-clause-numbered g c κs within = subst (λ (x : List Line). Numbered [] x) (sym c.as_slice-2.ensures) (numbered _ c.in-Ok-script.lines c.in-Ok-script.ensures.script)
+play_lines-requires-clause-numbered g c κs within = subst (λ (x : List Line). Numbered [] x) (sym c.as_slice.ensures) (numbered _ c.in-Ok.lines c.in-Ok.ensures.script)
