@@ -1,5 +1,5 @@
 -- What is answered of a text, as its branches have it.
-use Rattle.std.proofs.Common.{◌≡◌, ℕ, ◌+◌, ◌≤◌, List, [], ◌∷◌, length, take, ◌⊎◌, inl, inr, refl, subst, arith}
+use Rattle.std.proofs.Common.{◌≡◌, ℕ, ◌≤◌, List, length, take, inl, inr, subst, arith}
 use Rattle.td_lex.specs.declared.kinds.Spanned.{Spanned}
 use Rattle.td_lex.specs.Tokens.{IsTokens, NoToken, WideFirst, FailsAt as FailsInText}
 use Rattle.td_model.specs.declared.language.Stmt.{Stmt}

@@ -1,5 +1,5 @@
 -- What is answered of a text, from what is answered of its tokens.
-use Rattle.std.proofs.Common.{◌≡◌, ◌≢◌, ℕ, ◌+◌, ◌-◌, ◌≤◌, ◌<◌, Bool, true, false, List, [], ◌∷◌, ◌++◌, length, map, take, drop, Result, Ok, Err, ◌⊎◌, inl, inr, refl, sym, ap, subst, ◌∙◌, arith, append_assoc, le_refl}
+use Rattle.std.proofs.Common.{◌≡◌, ◌≢◌, ℕ, ◌+◌, ◌-◌, Bool, List, [], ◌∷◌, ◌++◌, length, take, drop, Result, Ok, Err, ◌⊎◌, inl, inr, refl, sym, ap, subst, ◌∙◌, arith, append_assoc, le_refl}
 use Rattle.std.proofs.lemmas.List.{append-nil, length-append, length-map, map-append, take-append-le, take_all}
 use Rattle.std.proofs.Math.Seq.{drop-append_seam}
 use Rattle.td_lex.specs.declared.kinds.Token.{Token}
@@ -7,16 +7,15 @@ use Rattle.td_lex.specs.declared.kinds.Token.TheVariants.{Word, Num, Dur, Str, S
 use Rattle.td_lex.specs.declared.kinds.Spanned.{Spanned}
 use Rattle.td_lex.specs.declared.kinds.LexFault.{LexFault}
 use Rattle.td_lex.specs.declared.kinds.LexFault.TheVariants.{NoMemory}
-use Rattle.td_lex.specs.Tokens.{BeginsNot, Ends as EndsToken, Stands, Reads, IsTokens, NoToken, WideFirst, Answers as LexAnswers}
+use Rattle.td_lex.specs.Tokens.{BeginsNot, Ends as EndsToken, Reads, IsTokens, NoToken, WideFirst}
 use Rattle.td_lex.proofs.OneAnswer.{one_answer}
-use Rattle.td_model.specs.declared.report.Cause.{Cause}
 use Rattle.td_model.specs.declared.report.Cause.TheVariants.{Syntax}
 use Rattle.td_model.specs.declared.language.Stmt.{Stmt}
 use Rattle.td_model.specs.declared.language.Stmt.TheVariants as stmt
 use Rattle.td_grammar.specs.declared.lexemes.Lexeme.{Lexeme}
 use Rattle.td_grammar.specs.Kinds.{lexeme_of}
 use Rattle.td_grammar.specs.Grammar.{Begins, Ends, FailsAt}
-use Rattle.td_parse.specs.Statements.{lexemes, IsStatement, BeginsStatement, cause_by, EndsEarly, TokenFails, NoTokenStands, Fails, judged, Parsed, Refused, cause_of_rest, cause_of, FailsIn, OfTokens, OfFront}
+use Rattle.td_parse.specs.Statements.{lexemes, IsStatement, BeginsStatement, cause_by, Fails, Parsed, Refused, cause_of_rest, cause_of, OfTokens, OfFront}
 
 abbrev first_or : Lexeme → List Lexeme → Lexeme
 first_or d [] = d

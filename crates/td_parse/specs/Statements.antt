@@ -2,7 +2,7 @@
 use Rattle.std.specs.Prelude.{◌≡◌, ◌<◌, ◌≤◌, ◌+◌, ◌-◌, ◌==◌, ◌||◌, ◌⊎◌, ℕ, Bool, true, false, not, nat_lt, if◌then◌else◌, List, [], ◌∷◌, ◌++◌, length, map, drop, Option, Some, None}
 use Rattle.std.specs.List.{list_any}
 use Rattle.td_lex.specs.declared.kinds.Token.{Token}
-use Rattle.td_lex.specs.declared.kinds.Token.TheVariants.{Word, Num, Dur, Str, Sym, Le, Ge, Ne}
+use Rattle.td_lex.specs.declared.kinds.Token.TheVariants.{Dur}
 use Rattle.td_lex.specs.declared.kinds.Spanned.{Spanned}
 use Rattle.td_lex.specs.Tokens.{Reads, IsTokens, NoToken, WideFirst}
 use Rattle.td_cols.specs.declared.kinds.Kind.{Kind}
@@ -10,7 +10,6 @@ use Rattle.td_cols.specs.declared.kinds.Kind.TheVariants as kind
 use Rattle.td_model.specs.declared.catalog.Column.{Column}
 use Rattle.td_model.specs.declared.report.Cause.{Cause}
 use Rattle.td_model.specs.declared.report.Cause.TheVariants.{TooLong, Syntax, NameTooLong, TypeNotBuilt, OptionNotBuilt}
-use Rattle.td_model.specs.declared.language.StreamDef.{StreamDef}
 use Rattle.td_model.specs.declared.language.Stmt.{Stmt}
 use Rattle.td_model.specs.declared.language.Stmt.TheVariants as stmt
 use Rattle.td_grammar.specs.declared.lexemes.Lexeme.{Lexeme}

@@ -18,7 +18,7 @@ use Rattle.td_parse.specs.declared.drafts.Options.{Options}
 use Rattle.td_parse.specs.Productions.{whole_number, COLUMN_NOT_BUILT, NOT_BUILT, sizes, text_kind, is_new, with_choice, no_options, stream_of, body_of, table_of}
 use Rattle.td_clauses.specs.Written.{written_lits, written_query}
 
--- type := BOOL | TIMESTAMP | ( TINYINT | SMALLINT | INT | INTEGER | BIGINT ) [ UNSIGNED ] | listC [ ( Num [ , Num ] ) ]
+-- type := BOOL | TIMESTAMP | ( TINYINT | SMALLINT | INT | INTEGER | BIGINT ) [ UNSIGNED ] | one not built [ ( Num [ , Num ] ) ]
 unfoldable pub written_type : {E : Type 0} → G E Kind
 written_type = either (valued (λ _. kind.Bool) BOOL) (either (valued (λ _. kind.Time) TIMESTAMP) (either whole_number (valued (λ _. kind.Wide) (COLUMN_NOT_BUILT ▷ sizes))))
 

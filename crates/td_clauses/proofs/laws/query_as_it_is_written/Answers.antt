@@ -1,4 +1,3 @@
-use Rattle.std.proofs.Common.{List}
 use Rattle.td_clauses.proofs.SameTrees.{query_in, query_out}
 use Rattle.td_clauses.proofs.laws.query_as_it_is_written.Goals as goal
 

@@ -1,4 +1,3 @@
-use Rattle.std.proofs.Common.{List}
 use Rattle.td_parse.proofs.SameTrees.{text_in, text_out}
 use Rattle.td_parse.proofs.laws.as_it_is_written.Goals as goal
 

@@ -1,4 +1,4 @@
-use Rattle.std.proofs.Common.{rules, ◌≡◌, [], ◌∷◌, List, ◌++◌, length, ap, sym, ◌∙◌, subst, Ok}
+use Rattle.std.proofs.Common.{[], ◌∷◌, ◌++◌, ap, sym, ◌∙◌, Ok}
 use Rattle.std.proofs.lemmas.Result.{err_from_is_err_and}
 use Rattle.td_grammar.specs.Grammar.{read}
 use Rattle.td_grammar.specs.Words.{list_from}

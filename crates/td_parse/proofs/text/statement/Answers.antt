@@ -1,4 +1,4 @@
-use Rattle.std.proofs.Common.{◌≡◌, length, subst, sym, refl, Err}
+use Rattle.std.proofs.Common.{length, subst, sym, refl}
 use Rattle.td_lex.specs.Tokens.{IsTokens, NoToken, WideFirst, FailsAt as FailsInText}
 use Rattle.td_parse.proofs.Answered.{answer_of_all, answer_without, answer_too_wide}
 use Rattle.td_parse.proofs.text.statement.Goals as goal

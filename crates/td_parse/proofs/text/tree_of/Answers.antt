@@ -1,8 +1,8 @@
-use Rattle.std.proofs.Common.{◌≡◌, subst, sym, ◌∙◌}
+use Rattle.std.proofs.Common.{subst, ◌∙◌}
 use Rattle.td_grammar.specs.Gives.{Parses}
 use Rattle.td_grammar.proofs.Whole.{parses}
 use Rattle.td_parse.specs.Productions.{statement_text, statement_good}
-use Rattle.td_parse.specs.Statements.{lexemes, IsStatement}
+use Rattle.td_parse.specs.Statements.{IsStatement}
 use Rattle.td_parse.proofs.text.tree_of.Goals as goal
 
 pub returns : goal.returns
