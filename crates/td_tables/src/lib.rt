@@ -18,3 +18,6 @@ mod verdicts;
 pub use listed::ListedRows;
 pub use rows::{OrderedRows, RowMap};
 pub use tables::{Tables, Turn};
+
+#[cfg(test)]
+mod tests;

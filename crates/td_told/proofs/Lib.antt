@@ -3,3 +3,4 @@ pub mod Orders
 pub mod Counts
 pub mod Fits
 pub mod Tells
+pub mod Worked

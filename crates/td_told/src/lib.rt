@@ -13,3 +13,6 @@ mod forms;
 
 pub use forms::{Form, form_of, reads_clock};
 
+
+#[cfg(test)]
+mod tests;
