@@ -4,7 +4,7 @@ use crate::top::{play, vnode};
 use std::alloc::Global;
 use std::test::Fail;
 use td_layer::{NoMem, Seq};
-use td_outside::{FreeGate, MemPlace, MemSink, MemSource, MemStore, Ticks};
+use td_memdev::{FreeGate, MemPlace, MemSink, MemSource, MemStore, Ticks};
 
 const MAKE: &str = "1: CREATE TABLE t (ts TIMESTAMP, v INT)\n";
 
