@@ -34,7 +34,12 @@ fn over(alloc: Global, cells: &[Option<Value>], values: &[Value]) -> Result<Seq<
 }
 
 /// Cells laid over the row of their key, if there is one; a new row is born at the moment, in milliseconds.
-pub fn lay(alloc: Global, cells: &[Option<Value>], moment: u64, row: Option<&Row>) -> Result<Row, NoMem>
+pub fn lay(
+    alloc: Global,
+    cells: &[Option<Value>],
+    moment: u64,
+    row: Option<&Row>,
+) -> Result<Row, NoMem>
     ensures { IfOk result (λ laid. laid ≡ lay cells.now moment (option_copied row.entry)) }
 {
     match row {

@@ -2,7 +2,7 @@
 use crate::{ListedRows, OrderedRows, RowMap, Tables};
 use std::alloc::Global;
 use std::test::Fail;
-use td_layer::{Cell, Key, Row, Seq, Birth, Value};
+use td_layer::{Birth, Cell, Key, Row, Seq, Value};
 use td_model::{Cause, Stmt, Verdict};
 
 fn row(alloc: Global, born: u64, value: i128) -> Result<Row, Fail> {
@@ -14,7 +14,13 @@ fn row(alloc: Global, born: u64, value: i128) -> Result<Row, Fail> {
 
 // What a table's rows are after some puts, of which two are of one key.
 fn shown<M: RowMap>(alloc: Global, mut rows: M) -> Result<String, Fail> {
-    for (table, ts, value) in [(2u32, 9u64, 1i128), (1, 5, 2), (2, 3, 3), (2, 9, 4), (3, 0, 5)] {
+    for (table, ts, value) in [
+        (2u32, 9u64, 1i128),
+        (1, 5, 2),
+        (2, 3, 3),
+        (2, 9, 4),
+        (3, 0, 5),
+    ] {
         rows.put(Key { table, ts }, row(alloc, 7, value)?)?;
     }
     let all = rows.shown(alloc, 2)?;

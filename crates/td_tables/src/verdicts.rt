@@ -55,7 +55,12 @@ pub fn select_verdict(table: Option<u32>) -> Verdict
 }
 
 /// What an INSERT of two numbers meets, with the table of its name, if there is one.
-pub fn insert_verdict(alloc: Global, table: Option<u32>, ts: i128, v: i128) -> Result<Verdict, NoMem>
+pub fn insert_verdict(
+    alloc: Global,
+    table: Option<u32>,
+    ts: i128,
+    v: i128,
+) -> Result<Verdict, NoMem>
     ensures { IfOk result (λ verdict. verdict ≡ insert_verdict table ts v) }
 {
     match table {

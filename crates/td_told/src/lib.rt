@@ -13,6 +13,5 @@ mod forms;
 
 pub use forms::{Form, form_of, reads_clock};
 
-
 #[cfg(test)]
 mod tests;

@@ -54,7 +54,7 @@ counted_of before [] front (b ∷ script) done all n = absurd all
 counted_of before (k ∷ ls) front [] done all n = absurd all
 counted_of before (k ∷ ls) front (a ∷ script) done all n =
     let here : a.ordinal ≡ count_of a.session front + 1 =
-        all.0.ordinal ∙ n.2 ∙ ap (λ c. c + 1) (sym (same_count k.session before front done) ∙ ap (λ s. count_of s front) (sym all.0.session)) in
+    all.0.ordinal ∙ n.2 ∙ ap (λ c. c + 1) (sym (same_count k.session before front done) ∙ ap (λ s. count_of s front) (sym all.0.session)) in
     (here, counted_of (before ++ k ∷ []) ls (front ++ a ∷ []) script (asks_more before front k a done all.0) all.1 n.3)
 
 -- What the lines so far, of which there are n, have given.

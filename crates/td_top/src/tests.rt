@@ -4,8 +4,8 @@ use crate::top::{play, told_of, vnode};
 use std::alloc::Global;
 use std::test::Fail;
 use td_layer::{NoMem, Seq};
+use td_memdev::{FreeGate, MemPlace, MemSink, MemSource, MemStore, Ticks};
 use td_tables::{ListedRows, OrderedRows};
-use td_outside::{FreeGate, MemPlace, MemSink, MemSource, MemStore, Ticks};
 
 const MAKE: &str = "1: CREATE TABLE t (ts TIMESTAMP, v INT)\n";
 
@@ -127,7 +127,10 @@ fn a_text_that_is_refused_names_its_cause(rt: HostRuntime) -> Result<(), Fail> {
         ("SELEC * FROM t", "Syntax 0"),
         ("SELECT * FROM t", "UnknownTable"),
         ("INSERT INTO t VALUES (1, 2)", "UnknownTable"),
-        ("INSERT INTO t VALUES (1,1234567890123456789)", "UnknownTable"),
+        (
+            "INSERT INTO t VALUES (1,1234567890123456789)",
+            "UnknownTable",
+        ),
         ("INSERT INTO t VALUES (-, 2)", "Syntax 22"),
         (
             "INSERT INTO t VALUES (1, 170141183460469231731687303715884105728)",

@@ -1,15 +1,18 @@
 //! The program: it makes the real devices, calls `vnode`, prints the status' line and ends with its number.
 //!
-//! It stands on `td_top` for all that it does. The real devices count their faults, and tell nothing of what they hold.
+//! It stands on `td_top` for all that it does, and on `td_realdev` for the devices.
 #![tactic(auto)]
 
-mod devices;
+ghost use Rattle.std.specs.Prelude.{◌≡◌, ◌↔◌, ◌⊎◌};
+ghost use Rattle.std.specs.IoError.{error_kind};
+ghost use Rattle.std.specs.Process.{exit_status};
+ghost use Rattle.td_top.specs.Exit.{exit_number};
 
-use crate::devices::{StandardInput, StandardOutput, SystemClock};
 use std::env;
 use std::io::{self, ErrorKind};
 use std::process::ExitCode;
-use td_outside::{FreeGate, MemPlace, MemStore};
+use td_memdev::{MemPlace, MemStore};
+use td_realdev::{OpenGate, StandardInput, StandardOutput, SystemClock};
 use td_top::{Status, vnode};
 
 fn main(rt: HostRuntime) -> ExitCode {
@@ -38,13 +41,16 @@ fn main(rt: HostRuntime) -> ExitCode {
         &mut out,
         &mut place,
         clock,
-        &FreeGate,
+        &OpenGate,
     );
     ended(&rt, status)
 }
 
 // The status where the words can't be read: for want of memory, or since one isn't text.
-fn unread_words(error: &io::Error) -> Status {
+fn unread_words(error: &io::Error) -> Status
+    ensures memory { (result ≡ Status.NoMemory) ↔ (error_kind error.now ≡ ErrorKind.OutOfMemory) }
+    ensures usage { (result ≡ Status.NoMemory) ⊎ (result ≡ Status.Usage) }
+{
     match error.kind() {
         ErrorKind::OutOfMemory => Status::NoMemory,
         _ => Status::Usage,
@@ -52,7 +58,9 @@ fn unread_words(error: &io::Error) -> Status {
 }
 
 // Prints the line of a status, if it has one, and gives its exit number.
-fn ended(rt: &impl Eprint, status: Status) -> ExitCode {
+fn ended(rt: &impl Eprint, status: Status) -> ExitCode
+    ensures { exit_status result ≡ exit_number status }
+{
     if status != Status::Done {
         let _ = eprintln!(rt; "{status}");
     }
