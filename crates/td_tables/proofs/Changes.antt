@@ -1,5 +1,5 @@
 -- What an accepted statement does is done whole or not at all.
-use Rattle.std.proofs.Common.{◌≡◌, ℕ, ℤ, pos, negsuc, true, false, cond, List, [], ◌∷◌, Option, Some, None, subst}
+use Rattle.std.proofs.Common.{◌≡◌, ℕ, ℤ, pos, negsuc, true, false, cond, [], ◌∷◌, Option, Some, None, subst}
 use lib.Chars.{codes}
 use Rattle.td_cols.specs.declared.kinds.Kind.TheVariants.{I32, Time}
 use Rattle.td_cols.specs.Kinds.{is_in_range}

@@ -1,11 +1,9 @@
 -- Which verdicts a statement may have.
-use Rattle.std.proofs.Common.{◌≡◌, ℕ, ℤ, pos, negsuc, ◌&&◌, true, false, cond, List, [], ◌∷◌, Option, Some, None, refl, ap, arith}
+use Rattle.std.proofs.Common.{◌≡◌, ℕ, ℤ, pos, negsuc, ◌&&◌, true, false, cond, List, [], ◌∷◌, Option, Some, None, refl, ap}
 use lib.Chars.{codes}
 use Rattle.td_cols.specs.declared.kinds.Kind.TheVariants.{I32, Time}
 use Rattle.td_cols.specs.Kinds.{is_in_range}
-use Rattle.td_model.specs.declared.catalog.Column.{Column}
 use Rattle.td_model.specs.declared.language.Lit.{Lit}
-use Rattle.td_model.specs.declared.language.Query.{Query}
 use Rattle.td_model.specs.declared.language.Stmt.{Stmt}
 use Rattle.td_model.specs.declared.language.Stmt.TheVariants as stmt
 use Rattle.td_model.specs.declared.history.What.{What}

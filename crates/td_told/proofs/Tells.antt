@@ -1,5 +1,5 @@
 -- A run of turns is told by its replies and its journal.
-use Rattle.std.proofs.Common.{◌≡◌, ℕ, zero, suc, ◌+◌, ◌-◌, ◌≤◌, ◌<◌, true, List, [], ◌∷◌, ◌++◌, length, take, Option, Some, None, slice_get, refl, sym, ap, ◌∙◌, subst, arith}
+use Rattle.std.proofs.Common.{◌≡◌, ℕ, zero, suc, ◌+◌, ◌-◌, ◌≤◌, List, [], ◌∷◌, ◌++◌, length, take, Option, Some, None, slice_get, refl, sym, ap, ◌∙◌, subst, arith}
 use Rattle.std.proofs.lemmas.List.{append_assoc, length-append, take_at}
 use Rattle.td_model.specs.declared.language.Stmt.{Stmt}
 use Rattle.td_model.specs.declared.history.What.{What}
@@ -8,11 +8,10 @@ use Rattle.td_model.specs.declared.history.Entry.{Entry}
 use Rattle.td_model.specs.declared.history.Verdict.{Verdict}
 use Rattle.td_model.specs.declared.history.Verdict.TheVariants.{Accept, Pass, Refuse}
 use Rattle.td_model.specs.declared.report.Reply.{Reply}
-use Rattle.td_model.specs.declared.report.Reply.TheVariants as reply
 use Rattle.td_model.specs.declared.report.JournalLine.{JournalLine}
 use Rattle.td_model.specs.State.{State, step, newest, trail, after, at}
 use Rattle.td_model.proofs.Steps.{step_version}
-use Rattle.td_told.specs.Asked.{Asked, statement_at, count_of, Counted}
+use Rattle.td_told.specs.Asked.{Asked, count_of, Counted}
 use Rattle.td_told.specs.Times.{Timed}
 use Rattle.td_told.specs.Verdict.{verdict, answer}
 use Rattle.td_told.specs.Told.{IsHistory, Entered, JudgedAt, IsPrefix, Answers, EachAnswered, entry_of, InOrder, NumberIs, front_after, listed, accepted, with_version, version_of, ToldInOrder}

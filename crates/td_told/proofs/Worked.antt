@@ -18,17 +18,15 @@ use Rattle.td_model.specs.declared.language.OrderBy.TheVariants as order
 use Rattle.td_model.specs.declared.language.WindowDef.TheVariants as window
 use Rattle.td_model.specs.declared.language.Stmt.{Stmt}
 use Rattle.td_model.specs.declared.language.Stmt.TheVariants as stmt
-use Rattle.td_model.specs.declared.history.What.{What}
 use Rattle.td_model.specs.declared.history.What.TheVariants as what
 use Rattle.td_model.specs.declared.history.Entry.{Entry}
-use Rattle.td_model.specs.declared.history.Verdict.{Verdict}
-use Rattle.td_model.specs.declared.history.Verdict.TheVariants.{Accept, Pass, Refuse}
+use Rattle.td_model.specs.declared.history.Verdict.TheVariants.{Refuse}
 use Rattle.td_model.specs.declared.report.Cause.TheVariants.{Syntax, OptionNotBuilt, UnknownTable, NameTaken, OutOfRange}
 use Rattle.td_model.specs.declared.report.Reply.TheVariants as reply
 use Rattle.td_model.specs.declared.report.Mark.TheVariants as mark
 use Rattle.td_model.specs.declared.report.JournalLine.{JournalLine}
 use Rattle.td_model.specs.declared.report.Report.{Report}
-use Rattle.td_model.specs.State.{State, empty_state, after}
+use Rattle.td_model.specs.State.{empty_state, after}
 use Rattle.td_cols.specs.declared.kinds.Kind.TheVariants.{I32, Time}
 use Rattle.td_cols.specs.Kinds.{is_in_range, kind_least, kind_most}
 use Rattle.td_told.specs.Asked.{Asked}

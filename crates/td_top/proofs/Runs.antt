@@ -1,7 +1,6 @@
 -- How far a script has been played.
-use Rattle.std.proofs.Common.{◌≡◌, ℕ, ◌+◌, ◌≤◌, ◌<◌, ◌==◌, Bool, true, false, cond, List, [], ◌∷◌, ◌++◌, length, Option, Some, None, refl, sym, ap, ◌∙◌, subst, arith}
+use Rattle.std.proofs.Common.{◌≡◌, ℕ, ◌+◌, ◌≤◌, ◌==◌, Bool, true, false, cond, List, [], ◌∷◌, ◌++◌, Option, refl, sym, ap, ◌∙◌, subst, arith}
 use Rattle.std.specs.List.{count_by}
-use Rattle.std.proofs.lemmas.List.{take_more}
 use Rattle.std.proofs.lemmas.List.Recursion.{is_count_by}
 use Rattle.td_script.specs.declared.lines.Line.{Line}
 use Rattle.td_script.specs.Script.{Numbered}
@@ -10,7 +9,6 @@ use Rattle.td_model.specs.declared.report.Reply.{Reply}
 use Rattle.td_model.specs.State.{State, empty_state}
 use Rattle.td_told.specs.Asked.{Asked, count_of, Counted}
 use Rattle.td_told.specs.Turn.{reads, reply_line_at, as_list}
-use Rattle.td_told.specs.Told.{ToldInOrder}
 use Rattle.td_told.proofs.Plays.{Plays, MayBe, plays_next, nothing_played, reads_more}
 use Rattle.td_told.proofs.Tells.{told_of_plays}
 use Rattle.td_top.specs.Asks.{Asks, AsksAll, TellsLines}

@@ -1,7 +1,5 @@
 -- What each status of the program says.
-use Rattle.std.specs.Prelude.{◌≡◌, ◌⊎◌, ℕ, ◌≤◌, ◌<◌, Bool, true, false, not, ◌&&◌, ◌==◌, if◌then◌else◌, List, [], ◌∷◌, Option, length, Some, None}
-use Rattle.std.specs.Str.{bytes_eq}
-use lib.Chars.{codes}
+use Rattle.std.specs.Prelude.{◌≡◌, ◌⊎◌, ℕ, ◌≤◌, ◌<◌, Bool, true, false, List, Option, length, Some}
 use Rattle.std.specs.Io.KnownBytes.{Appends, Keeps}
 use Rattle.td_outside.specs.Causes.{Rose}
 use Rattle.td_model.specs.declared.report.Report.{Report}
@@ -12,18 +10,6 @@ use Rattle.td_model.specs.Text.{report_text}
 use Rattle.td_top.specs.Stream.{ReadWhole, ReadTooMuch, WroteFront}
 use Rattle.td_top.specs.declared.status.Status.{Status}
 use Rattle.td_top.specs.declared.status.Status.TheVariants as status
-
--- a directory's name isn't empty and doesn't begin with a dash
-abbrev pub is_dir : List ℕ → Bool
-is_dir [] = false
-is_dir (b ∷ bs) = not (b == 45)
-
--- the directory that the words name, where they are `play` and one directory
-abbrev pub dir_of : List (List ℕ) → Option (List ℕ)
-dir_of [] = None
-dir_of (word ∷ []) = None
-dir_of (word ∷ dir ∷ []) = if bytes_eq word (codes "play") && is_dir dir then Some dir else None
-dir_of (word ∷ dir ∷ other ∷ words) = None
 
 -- What stands outside at a moment: the bytes that the source has left and those that the sink took, where they tell them,
 -- and how often each failed.

@@ -6,7 +6,7 @@
 //! that history gives. Each other status has its cause, and over a source that tells its bytes they determine the status.
 //!
 //! `status` has the statuses with their exit numbers and lines, `stream` reads a whole source and writes a whole text, `top`
-//! plays. The crate stands on `td_script` and `td_parse`, which read, on `td_tables`, which has the state, on `td_told` for the
+//! plays. The crate stands on `td_words`, `td_script` and `td_parse`, which read, on `td_tables`, which has the state, on `td_told` for the
 //! definitions, on `td_report` for the text of a report, and on `td_outside` for the devices.
 #![tactic(auto)]
 

@@ -2,10 +2,11 @@
 ghost use Rattle.std.specs.Prelude.{◌≡◌, ◌<◌, ◌≤◌, ◌+◌, ◌↔◌, ◌^◌, ◌++◌, ◌∷◌, [], true, false, map, None, IfOk, IfErr, OnOk, IsSome, string_bytes, length};
 ghost use Rattle.td_script.specs.Script.{Numbered};
 ghost use Rattle.td_told.specs.Turn.{reply_line_at, as_list};
+ghost use Rattle.td_words.specs.Words.{is_dir, dir_of};
 ghost use Rattle.td_top.specs.Asks.{TellsLines};
 ghost use Rattle.td_top.specs.Moment.{TakesMoment, TurnOf};
 ghost use Rattle.td_top.specs.Stream.{TookFew};
-ghost use Rattle.td_top.specs.Status.{Tells, TextTells, TextEnded, is_dir, dir_of, outside, Ended, Says, Completes, writes};
+ghost use Rattle.td_top.specs.Status.{Tells, TextTells, TextEnded, outside, Ended, Says, Completes, IsUnlessMemory, writes};
 
 use crate::status::Status;
 use crate::stream::{ReadFault, read_all, write_all};
@@ -20,6 +21,7 @@ use td_report::report;
 use td_script::{Line, ScriptFault, script};
 use td_tables::{OrderedRows, RowMap, Tables, Turn};
 use td_told::reads_clock;
+use td_words::{Command, read_command};
 
 fn push_reply(
     replies: &mut Seq<(u32, u32, Reply)>,
@@ -211,7 +213,8 @@ pub fn play<I: Source, O: Sink, P: Place, C: Clock>(
     }
 }
 
-/// The program: `play DIR` and nothing else, where DIR isn't empty and doesn't begin with `-`. It says what `play` says.
+/// The program: `play DIR` and nothing else, where DIR isn't empty and doesn't begin with `-`. It says what `play` says. With
+/// words that are no command nothing is read, and the status is `Usage`, unless there was no memory to read them.
 pub fn vnode<R: Threads + Wait + Sync, I: Source, O: Sink, P: Place, C: Clock, G: Gate>(
     _rt: &R,
     alloc: Global,
@@ -222,7 +225,8 @@ pub fn vnode<R: Threads + Wait + Sync, I: Source, O: Sink, P: Place, C: Clock, G
     clock: C,
     _gate: &G,
 ) -> Status
-    ensures usage { (result ≡ Status.Usage) ↔ (dir_of (map string_bytes words.now) ≡ None) }
+    ensures usage { result ≡ Status.Usage → dir_of (map string_bytes words.now) ≡ None }
+    ensures no_command { dir_of (map string_bytes words.now) ≡ None → IsUnlessMemory result Status.Usage × (input.new ≡ input.old) }
     ensures says { IsSome (dir_of (map string_bytes words.now)) → Says (C.readings clock) (outside (I.left input.old) (I.count input.old) (O.written out.old) (O.count out.old)) (outside (I.left input.new) (I.count input.new) (O.written out.new) (O.count out.new)) result }
     ensures complete { IsSome (dir_of (map string_bytes words.now)) → Completes (outside (I.left input.old) (I.count input.old) (O.written out.old) (O.count out.old)) (outside (I.left input.new) (I.count input.new) (O.written out.new) (O.count out.new)) result }
     ensures few { TookFew (I.left input.old) (I.left input.new) }
@@ -230,14 +234,9 @@ pub fn vnode<R: Threads + Wait + Sync, I: Source, O: Sink, P: Place, C: Clock, G
     ensures sink { writes result ≡ false → out.new ≡ out.old }
     ensures place { place.new ≡ place.old }
 {
-    match words {
-        [word, dir] => {
-            if word.as_str() == "play" {
-                play(alloc, dir.as_bytes(), input, out, place, clock)
-            } else {
-                Status::Usage
-            }
-        }
-        _ => Status::Usage,
+    match read_command(alloc, words) {
+        Ok(Some(Command::Play { dir })) => play(alloc, dir.as_bytes(), input, out, place, clock),
+        Ok(None) => Status::Usage,
+        Err(NoMem) => Status::NoMemory,
     }
 }

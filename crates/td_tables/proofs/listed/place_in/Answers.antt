@@ -1,4 +1,4 @@
-use Rattle.std.proofs.Common.{◌≡◌, sym, ◌∙◌}
+use Rattle.std.proofs.Common.{sym, ◌∙◌}
 use Rattle.td_tables.proofs.Places.{put_at}
 use Rattle.td_tables.proofs.listed.place_in.Goals as goal
 
