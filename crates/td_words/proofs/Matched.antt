@@ -1,5 +1,5 @@
 -- What the matches of a parse say of the subcommand.
-use Rattle.std.proofs.Common.{◌≡◌, ℕ, List, Option, Some, None, Box, option_map, option_and_then, refl, ap, ap₂, codes}
+use Rattle.std.proofs.Common.{◌≡◌, List, Option, Some, None, Box, option_map, ap, ap₂, codes}
 use Rattle.std.specs.Box.{box_value}
 use Rattle.clap.specs.Walk.{Row, Text, first_of}
 use Rattle.clap.specs.Matches.{subcommand_name_of}

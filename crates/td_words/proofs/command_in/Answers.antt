@@ -1,4 +1,4 @@
-use Rattle.std.proofs.Common.{◌≡◌, Some, option_map, ap, refl, sym, ◌∙◌, codes}
+use Rattle.std.proofs.Common.{◌≡◌, option_map, ap, refl, sym, ◌∙◌, codes}
 use Rattle.clap.specs.Walk.{first_of, rows_of}
 use Rattle.clap.specs.Matches.{found_of}
 use Rattle.clap.specs.Simple.{subcommand_rows_of}

@@ -1,13 +1,10 @@
-use Rattle.std.proofs.Common.{◌≡◌, ◌⊎◌, inl, inr, true, false, List, [], None, map, string_bytes, ap, subst, sym, ◌∙◌}
+use Rattle.std.proofs.Common.{◌≡◌, inl, inr, true, false, [], map, string_bytes, ap, subst, sym, ◌∙◌}
 use Rattle.std.specs.List.{list_any}
-use Rattle.clap.specs.Walk.{Text}
 use Rattle.clap.specs.Kinds.{HasKind, Kinds}
-use Rattle.clap.specs.Values.{kind_of}
 use Rattle.clap.specs.Simple.{App, app_of, is_simple, subcommand_of}
 use Rattle.clap.specs.Faults.{fault_of, is_simple_and_free}
-use Rattle.clap.specs.declared.error.kind.ErrorKind.TheVariants as kind
 use Rattle.clap.proofs.WalkLemmas.{list_any-map}
-use Rattle.td_words.specs.Words.{dir_of, is_dashed}
+use Rattle.td_words.specs.Words.{is_dashed}
 use Rattle.td_words.specs.Program.{dir_in, program_app}
 use Rattle.td_words.proofs.Parsing.{read_is, none_or_fine, is_simple_program, is_free_program, dashed_is_none}
 use Rattle.td_words.proofs.read_command.Goals as goal
