@@ -14,7 +14,7 @@ mod sink;
 mod source;
 
 pub use clock::Ticks;
-pub use gate::FreeGate;
+pub use gate::{FreeGate, Hold, HoldGate};
 pub use place::{MemPlace, MemStore};
 pub use sink::MemSink;
 pub use source::MemSource;
