@@ -102,7 +102,11 @@ impl HoldGate {
         ensures from_one { IfSome result (λ n. 0 < n) }
     {
         let counts = self.counts.get(session as usize)?;
-        Some(counts[point as usize].fetch_add(1, SeqCst).saturating_add(1))
+        Some(
+            counts[point as usize]
+                .fetch_add(1, SeqCst)
+                .saturating_add(1),
+        )
     }
 
     /// How often a session has reached a point.
