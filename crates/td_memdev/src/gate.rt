@@ -48,13 +48,13 @@ struct Held {
 /// How many sessions are counted: 0 to 64.
 const SESSIONS: usize = 65;
 
-/// A gate that holds sessions by rules, and looks at most `limit` times whether a rule is met. Contracts see it as its rules
+/// A gate that holds sessions by rules, each for at most `limit` looks whether the rule is met. Contracts see it as its rules
 /// and its limit; how often a session was where, and which rule was looked at in vain, no contract can see.
 #[derive(Drop)]
 pub struct HoldGate {
     held: Vec<Held>,
     limit: u64,
-    /// How often each session reached `Start`, `Pinned` and `Replied`.
+    /// How often each session reached `Start`, `Pinned` and `Replied`, modulo 2^64.
     counts: Vec<[AtomicU64; 3]>,
 }
 
@@ -70,7 +70,8 @@ impl Model for HoldGate {
 }
 
 impl HoldGate {
-    /// A gate with these rules, which holds a session for at most `limit` looks. No session has reached a point so far.
+    /// A gate with these rules, which holds a session for at most `limit` looks a rule; a hold without a look is in vain. No
+    /// session has reached a point so far. It takes all its memory here.
     pub fn new(alloc: Global, rules: Seq<Hold>, limit: u64) -> Result<HoldGate, NoMem>
         ensures { IfOk result (λ g. g ≡ record { rules = rules; limit = limit }) }
     {
@@ -89,7 +90,7 @@ impl HoldGate {
         })
     }
 
-    /// Whether a session was held until a rule had been looked at `limit` times in vain. Without rules it never was.
+    /// Whether a session was held until its rule had been looked at `limit` times in vain. Without rules none ever was.
     pub fn met_limit(&self) -> bool
         ensures no_rules { self.now.rules ≡ [] → result ≡ false }
     {
