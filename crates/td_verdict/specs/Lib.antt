@@ -1,0 +1,4 @@
+pub mod Causes
+pub mod Names
+pub mod Values
+pub mod Writes
