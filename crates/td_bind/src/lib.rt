@@ -1,13 +1,8 @@
-// A library with one function.
+//! The verdict of a write over the whole language.
+//!
+//! It stands on `td_verdict` for the definitions, on `td_catalog` for names and schemas, and on `td_lex` for the texts of
+//! timestamps.
 #![tactic(auto)]
 
-ghost use Rattle.std.specs.Prelude.{◌≡◌};
-ghost use Rattle.td_bind.specs.Echo.{echo_of};
-
-// The `ensures` clause is the contract: what `echo` returns is `echo_of` of its argument, a definition
-// in `specs/Echo.antt`, which a caller's clause can cite too.
-pub fn echo(x: usize) -> usize
-    ensures { result ≡ echo_of x }
-{
-    x
-}
+mod names;
+mod values;

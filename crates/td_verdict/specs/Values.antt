@@ -1,6 +1,6 @@
 -- What a literal says at a column or a tag of a kind, at a moment in milliseconds since 1970.
 use Rattle.std.specs.Prelude.{ℕ, ℤ, pos, Bool, true, false, ◌&&◌, ◌||◌, nat_le, if◌then◌else◌, List, length, Option, Some, None, is_some}
-use Rattle.std.specs.Option.{option_map_or}
+use Rattle.std.specs.Option.{option_map_or, unwrap_or}
 use Rattle.std.specs.Ordering.{int_eq}
 use Rattle.td_cols.specs.declared.kinds.Kind.{Kind}
 use Rattle.td_cols.specs.declared.kinds.Kind.TheVariants as kind
@@ -49,9 +49,16 @@ is_null _ = false
 abbrev pub suits : Kind → ℕ → Lit → Bool
 suits k moment l = is_null l || is_some (number_at k moment l) || is_some (text_at k l)
 
--- A number is in the range of the kind, and a text has at most its bytes.
+-- a text has at most the bytes of its kind
+abbrev pub text_fits : Kind → Lit → Bool
+text_fits k l = option_map_or (λ text. nat_le (length text) (unwrap_or (width_of k) 0)) (text_at k l) true
+
+-- a number is in the range of its kind
+abbrev pub number_fits : Kind → ℕ → Lit → Bool
+number_fits k moment l = option_map_or (is_in_range k) (number_at k moment l) true
+
 abbrev pub fits : Kind → ℕ → Lit → Bool
-fits k moment l = option_map_or (is_in_range k) (number_at k moment l) true && option_map_or (λ text. nat_le (length text) (option_map_or (λ n. n) (width_of k) 0)) (text_at k l) true
+fits k moment l = number_fits k moment l && text_fits k l
 
 -- the value of a column
 abbrev pub value_or_null : Option ℤ → Value

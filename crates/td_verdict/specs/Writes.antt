@@ -1,8 +1,8 @@
 -- What a write meets in a catalog, at a retention edge and a moment in milliseconds since 1970. Of each form its causes stand
 -- in their one order, and within one cause its places in the order of the text; then what it is accepted as.
-use Rattle.std.specs.Prelude.{ℕ, ◌+◌, ◌-◌, ◌*◌, ◌/◌, max, ℤ, pos, negsuc, int_lt, Bool, false, not, ◌&&◌, ◌||◌, ◌==◌, nat_lt, nat_le, if◌then◌else◌, List, [], ◌∷◌, ◌++◌, map, length, drop, Option, Some, None, is_none, position, slice_get}
+use Rattle.std.specs.Prelude.{ℕ, ◌+◌, ◌-◌, ◌*◌, ◌/◌, max, min, ℤ, pos, negsuc, int_lt, Bool, false, not, ◌&&◌, ◌||◌, ◌==◌, nat_lt, nat_le, if◌then◌else◌, List, [], ◌∷◌, ◌++◌, map, length, drop, Option, Some, None, is_none, position, slice_get}
 use Rattle.std.specs.Int.{int_min, int_max}
-use Rattle.std.specs.List.{list_any, filter_map, zip}
+use Rattle.std.specs.List.{list_any, filter_map, find, zip}
 use Rattle.std.specs.Option.{option_map, option_and_then, option_or, unwrap_or}
 use Rattle.td_cols.specs.declared.kinds.Kind.TheVariants.{Time}
 use Rattle.td_layer.specs.declared.values.Value.{Value}
@@ -32,20 +32,21 @@ first_given give (x ∷ xs) = option_or (give x) (first_given give xs)
 
 -- ---- CREATE STABLE, CREATE TABLE
 
--- a text's bytes are outside 1 to 4096
-abbrev pub bad_width : Column → Option Cause
-bad_width c = when (not (has_width c.kind)) (cause.OutOfRange c.name)
+-- the first column whose text's bytes are outside 1 to 4096
+abbrev pub width_cause : List Column → Option Cause
+width_cause columns = option_map (λ c. cause.OutOfRange c.name) (find (λ c. not (has_width c.kind)) columns)
 
 -- one more table or supertable is more than 1048576 together
 abbrev pub is_full : Catalog → Bool
 is_full c = nat_le 1048576 (length c.tables + length c.stables)
 
--- of the columns and the tags, and then of the number of tables
+-- The place of a name is before that of the columns, whose place is before that of the tags.
 abbrev pub definition_cause : List ℕ → List Column → List Column → Catalog → Option Cause
 definition_cause name columns tags c = first_cause (
-    when (is_taken name c || stands_twice (names_of (columns ++ tags))) cause.NameTaken
+    when (is_taken name c || stands_twice (names_of columns ++ names_of tags)) cause.NameTaken
     ∷ when (lacks_time columns) cause.NeedsTime
-    ∷ first_given bad_width (columns ++ tags)
+    ∷ width_cause columns
+    ∷ width_cause tags
     ∷ when (is_full c) (cause.TooMany many.Tables 1048576)
     ∷ when (nat_lt 256 (length columns)) (cause.TooMany many.Columns 256)
     ∷ when (nat_lt 32 (length tags)) (cause.TooMany many.Tags 32)
@@ -61,16 +62,22 @@ make_table_verdict name columns c = accepted_or (definition_cause name columns [
 -- ---- literals at columns
 
 -- a literal doesn't suit its column
-abbrev pub mismatch : ℕ → Column × Lit → Option Cause
-mismatch moment p = when (not (suits p.0.kind moment p.1)) (cause.TypeMismatch p.0.name)
+abbrev pub is_mismatch : ℕ → Column × Lit → Bool
+is_mismatch moment p = not (suits p.0.kind moment p.1)
 
--- a literal is outside the range of its column
-abbrev pub outside : ℕ → Column × Lit → Option Cause
-outside moment p = when (not (fits p.0.kind moment p.1)) (cause.OutOfRange p.0.name)
+-- A literal is outside the range of its column. Where the columns of a table are given, NULL is outside that of the first.
+abbrev pub is_outside : List Column → ℕ → Column × Lit → Bool
+is_outside table moment p = is_first table p.0.name && is_null p.1 || not (fits p.0.kind moment p.1)
 
--- the first cause of a kind among literals, in the order of their columns
-abbrev pub first_at : (Column × Lit → Option Cause) → List Column → List Lit → Option Cause
-first_at give columns lits = first_given give (zip columns lits)
+-- the first column whose literal passes a test, in a group of literals at columns
+abbrev pub first_column : (Column × Lit → Bool) → List Column → List Lit → Option Column
+first_column test columns group = option_map (λ p. p.0) (find test (zip columns group))
+
+abbrev pub mismatch_of : Option Column → Option Cause
+mismatch_of found = option_map (λ c. cause.TypeMismatch c.name) found
+
+abbrev pub outside_of : Option Column → Option Cause
+outside_of found = option_map (λ c. cause.OutOfRange c.name) found
 
 -- ---- CREATE TABLE .. USING
 
@@ -84,8 +91,8 @@ make_sub_cause name stable tags lits moment c = first_cause (
     ∷ when (not (is_stable stable c)) cause.NotAStable
     ∷ when (is_taken name c) cause.NameTaken
     ∷ when (not (length lits == length tags)) cause.Arity
-    ∷ first_at (mismatch moment) tags lits
-    ∷ first_at (outside moment) tags lits
+    ∷ mismatch_of (first_column (is_mismatch moment) tags lits)
+    ∷ outside_of (first_column (is_outside [] moment) tags lits)
     ∷ when (is_full c) (cause.TooMany many.Tables 1048576)
     ∷ [])
 
@@ -112,37 +119,36 @@ abbrev pub chosen : List Column → Option (List (List ℕ)) → List Column
 chosen columns None = columns
 chosen columns (Some names) = filter_map (column_named columns) names
 
--- NULL in the first column, or a value outside the range of its column
-abbrev pub outside_in : List Column → ℕ → Column × Lit → Option Cause
-outside_in columns moment p = when (is_first columns p.0.name && is_null p.1 || not (fits p.0.kind moment p.1)) (cause.OutOfRange p.0.name)
+-- the literal at the column of a name, in a group of literals at columns
+abbrev pub literal_of : List Column → List Lit → List ℕ → Option Lit
+literal_of places group name = option_and_then (slice_get group) (position (is_named name) places)
 
--- the literal at the first column that passes a test, in a group of literals at columns
-abbrev pub literal_where : (Column → Bool) → List Column → List Lit → Option Lit
-literal_where test columns group = option_and_then (slice_get group) (position test columns)
-
--- the timestamp of a group
+-- the timestamp of a group of a table: what the literal at its first column says
 abbrev pub time_in : List Column → List Column → ℕ → List Lit → Option ℤ
-time_in columns places moment group = option_and_then (number_at Time moment) (literal_where (λ c. is_first columns c.name) places group)
+time_in [] places moment group = None
+time_in (c ∷ cs) places moment group = option_and_then (number_at Time moment) (literal_of places group c.name)
 
 abbrev pub is_before : ℕ → Option ℤ → Bool
 is_before edge None = false
 is_before edge (Some ts) = int_lt ts (pos (edge * day_range))
 
--- a number that isn't negative; no timestamp is
-abbrev pub natural : Option ℤ → ℕ
-natural None = 0
-natural (Some (pos n)) = n
-natural (Some (negsuc n)) = 0
+-- the end of the year 9999
+abbrev pub last_time : ℕ
+last_time = 253402300799999
+
+-- a number brought into the range of timestamps
+abbrev pub time_from : ℤ → ℕ
+time_from (pos n) = min n last_time
+time_from (negsuc n) = 0
 
 -- a group as a put: each column but the first has its literal's value, and one that isn't chosen isn't named
 abbrev pub cell_in : List Column → ℕ → List Lit → Column → Option Value
-cell_in places moment group c = option_map (value_of c.kind moment) (literal_where (is_named c.name) places group)
+cell_in places moment group c = option_map (value_of c.kind moment) (literal_of places group c.name)
 
 abbrev pub put_of : ℕ → List Column → List Column → ℕ → List Lit → Put
 put_of table columns places moment group = record {
-  key = record { table = table; ts = natural (time_in columns places moment group) };
-  cells = map (cell_in places moment group) (drop 1 columns);
-}
+    key = record { table = table; ts = time_from (unwrap_or (time_in columns places moment group) (pos 0)) };
+    cells = map (cell_in places moment group) (drop 1 columns) }
 
 -- an INSERT or a DELETE names no table
 abbrev pub target_cause : List ℕ → Catalog → Option Cause
@@ -164,8 +170,8 @@ list_cause columns names = first_cause (
 abbrev pub groups_cause : List Column → List Column → List (List Lit) → ℕ → ℕ → Option Cause
 groups_cause columns places groups edge moment = first_cause (
     when (list_any (λ group. not (length group == length places)) groups) cause.Arity
-    ∷ first_given (first_at (mismatch moment) places) groups
-    ∷ first_given (first_at (outside_in columns moment) places) groups
+    ∷ mismatch_of (first_given (first_column (is_mismatch moment) places) groups)
+    ∷ outside_of (first_given (first_column (is_outside columns moment) places) groups)
     ∷ when (nat_lt 16384 (length groups)) (cause.TooMany many.Rows 16384)
     ∷ when (list_any (λ group. is_before edge (time_in columns places moment group)) groups) (cause.BeforeEdge edge)
     ∷ [])
@@ -181,9 +187,6 @@ abbrev pub insert_verdict : List ℕ → Option (List (List ℕ)) → List (List
 insert_verdict table names groups edge moment c = insert_in table (table_schema (table_named table c) c).columns names groups edge moment c
 
 -- ---- DELETE
-
-abbrev pub last_time : ℕ
-last_time = 253402300799999
 
 -- a bound that says no timestamp's number
 abbrev pub bad_bound : List ℕ → ℕ → Lit → Option Cause
@@ -203,7 +206,7 @@ bound_of moment bound = unwrap_or (number_at Time moment bound) (pos 0)
 
 -- the timestamps from the one bound to the other; 1 to 0 where there are none
 abbrev pub cut_between : ℕ → ℤ → ℤ → What
-cut_between table lo hi = if int_lt hi lo then what.Cut table 1 0 else what.Cut table (natural (Some lo)) (natural (Some hi))
+cut_between table lo hi = if int_lt hi lo then what.Cut table 1 0 else what.Cut table (time_from lo) (time_from hi)
 
 abbrev pub cut_of : ℕ → ℤ → ℤ → What
 cut_of table lo hi = cut_between table (int_max lo (pos 0)) (int_min hi (pos last_time))
