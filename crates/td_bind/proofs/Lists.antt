@@ -1,6 +1,7 @@
 -- A list from a place on, as loops go over it.
-use Rattle.std.proofs.Common.{◌≡◌, ℕ, ◌+◌, ◌<◌, ◌||◌, List, ◌∷◌, drop, length, get_or, ap, ◌∙◌, add-one, sym}
+use Rattle.std.proofs.Common.{◌≡◌, ℕ, ◌+◌, ◌<◌, ◌||◌, List, ◌∷◌, drop, length, get_or, ap, ◌∙◌, add-one, sym, map, ◌++◌, []}
 use Rattle.std.proofs.Math.Seq.{drop-cons}
+use Rattle.std.proofs.lemmas.List.{append_assoc}
 use Rattle.std.specs.Str.{bytes_eq}
 use Rattle.std.specs.List.{list_any}
 use Rattle.td_verdict.specs.Names.{stands_twice}
@@ -11,3 +12,7 @@ at_place xs i d h = drop-cons xs i d h ∙ ap (λ n. get_or xs i d ∷ drop n xs
 
 pub twice_from : (names : List (List ℕ)) (i : ℕ) (d : List ℕ) → i < length names → stands_twice (drop i names) ≡ (list_any (bytes_eq (get_or names i d)) (drop (i + 1) names) || stands_twice (drop (i + 1) names))
 twice_from names i d h = ap stands_twice (at_place names i d h)
+
+-- one more image at the end, and one fewer to come
+pub one_more : {X Y : Type 0} (f : X → Y) (xs : List X) (i : ℕ) (d : X) (ys : List Y) → i < length xs → ys ++ map f (drop i xs) ≡ (ys ++ f (get_or xs i d) ∷ []) ++ map f (drop (i + 1) xs)
+one_more f xs i d ys h = ap (λ r. ys ++ map f r) (at_place xs i d h) ∙ sym (append_assoc ys (f (get_or xs i d) ∷ []) (map f (drop (i + 1) xs)))

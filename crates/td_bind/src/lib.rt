@@ -4,5 +4,9 @@
 //! timestamps.
 #![tactic(auto)]
 
+mod columns;
+mod make;
 mod names;
 mod values;
+
+pub use make::{bind_make_stable, bind_make_table};

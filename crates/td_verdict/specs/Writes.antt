@@ -41,15 +41,25 @@ abbrev pub is_full : Catalog → Bool
 is_full c = nat_le 1048576 (length c.tables + length c.stables)
 
 -- The place of a name is before that of the columns, whose place is before that of the tags.
-abbrev pub definition_cause : List ℕ → List Column → List Column → Catalog → Option Cause
-definition_cause name columns tags c = first_cause (
-    when (is_taken name c || stands_twice (names_of columns ++ names_of tags)) cause.NameTaken
-    ∷ when (lacks_time columns) cause.NeedsTime
-    ∷ width_cause columns
-    ∷ width_cause tags
-    ∷ when (is_full c) (cause.TooMany many.Tables 1048576)
+abbrev pub count_cause : List Column → List Column → Catalog → Option Cause
+count_cause columns tags c = first_cause (
+    when (is_full c) (cause.TooMany many.Tables 1048576)
     ∷ when (nat_lt 256 (length columns)) (cause.TooMany many.Columns 256)
     ∷ when (nat_lt 32 (length tags)) (cause.TooMany many.Tags 32)
+    ∷ [])
+
+-- two columns or tags have one name
+abbrev pub have_one_name : List Column → List Column → Bool
+have_one_name columns tags = stands_twice (names_of columns ++ names_of tags)
+
+abbrev pub size_cause : List Column → List Column → Catalog → Option Cause
+size_cause columns tags c = first_cause (width_cause columns ∷ width_cause tags ∷ count_cause columns tags c ∷ [])
+
+abbrev pub definition_cause : List ℕ → List Column → List Column → Catalog → Option Cause
+definition_cause name columns tags c = first_cause (
+    when (is_taken name c || have_one_name columns tags) cause.NameTaken
+    ∷ when (lacks_time columns) cause.NeedsTime
+    ∷ size_cause columns tags c
     ∷ [])
 
 abbrev pub make_stable_verdict : List ℕ → List Column → Option (List Column) → Catalog → Verdict
@@ -147,8 +157,9 @@ cell_in places moment group c = option_map (value_of c.kind moment) (literal_of 
 
 abbrev pub put_of : ℕ → List Column → List Column → ℕ → List Lit → Put
 put_of table columns places moment group = record {
-    key = record { table = table; ts = time_from (unwrap_or (time_in columns places moment group) (pos 0)) };
-    cells = map (cell_in places moment group) (drop 1 columns) }
+  key = record { table = table; ts = time_from (unwrap_or (time_in columns places moment group) (pos 0)) };
+  cells = map (cell_in places moment group) (drop 1 columns);
+}
 
 -- an INSERT or a DELETE names no table
 abbrev pub target_cause : List ℕ → Catalog → Option Cause
