@@ -5,6 +5,7 @@
 #![tactic(auto)]
 
 mod columns;
+mod groups;
 mod make;
 mod names;
 mod values;

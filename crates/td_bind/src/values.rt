@@ -34,7 +34,7 @@ pub(crate) fn has_width(kind: Kind) -> bool
     }
 }
 
-fn is_null(lit: &Lit) -> bool
+pub(crate) fn is_null(lit: &Lit) -> bool
     ensures { result ≡ is_null lit.now }
 {
     matches!(lit, Lit::Null)

@@ -94,16 +94,27 @@ outside_of found = option_map (λ c. cause.OutOfRange c.name) found
 abbrev pub tag_cells : ℕ → List Column → List Lit → List Cell
 tag_cells moment tags lits = map (λ p. tag_of p.0.kind moment p.1) (zip tags lits)
 
--- the causes of the names, then of the literals, then of the number of tables
-abbrev pub make_sub_cause : List ℕ → List ℕ → List Column → List Lit → ℕ → Catalog → Option Cause
-make_sub_cause name stable tags lits moment c = first_cause (
+-- USING names nothing, or no supertable
+abbrev pub stable_cause : List ℕ → Catalog → Option Cause
+stable_cause stable c = first_cause (
     when (not (is_taken stable c)) cause.UnknownStable
     ∷ when (not (is_stable stable c)) cause.NotAStable
-    ∷ when (is_taken name c) cause.NameTaken
-    ∷ when (not (length lits == length tags)) cause.Arity
+    ∷ [])
+
+-- of the literals, and of the number of tables
+abbrev pub tags_cause : List Column → List Lit → ℕ → Catalog → Option Cause
+tags_cause tags lits moment c = first_cause (
+    when (not (length lits == length tags)) cause.Arity
     ∷ mismatch_of (first_column (is_mismatch moment) tags lits)
     ∷ outside_of (first_column (is_outside [] moment) tags lits)
     ∷ when (is_full c) (cause.TooMany many.Tables 1048576)
+    ∷ [])
+
+abbrev pub make_sub_cause : List ℕ → List ℕ → List Column → List Lit → ℕ → Catalog → Option Cause
+make_sub_cause name stable tags lits moment c = first_cause (
+    stable_cause stable c
+    ∷ when (is_taken name c) cause.NameTaken
+    ∷ tags_cause tags lits moment c
     ∷ [])
 
 abbrev pub make_sub_in : List ℕ → List ℕ → List Column → List Lit → ℕ → Catalog → Verdict
