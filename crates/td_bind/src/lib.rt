@@ -5,9 +5,12 @@
 #![tactic(auto)]
 
 mod columns;
+mod found;
 mod groups;
 mod make;
 mod names;
+mod subtables;
 mod values;
 
 pub use make::{bind_make_stable, bind_make_table};
+pub use subtables::bind_make_sub;
