@@ -1,3 +1,4 @@
 pub mod Times
 pub mod Lists
 pub mod Numbers
+pub mod PutsBySlots

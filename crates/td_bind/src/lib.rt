@@ -9,6 +9,7 @@ mod found;
 mod groups;
 mod make;
 mod names;
+mod slots;
 mod subtables;
 mod values;
 

@@ -4,6 +4,7 @@ use Rattle.std.specs.Prelude.{ℕ, ◌+◌, ◌-◌, ◌*◌, ◌/◌, max, min,
 use Rattle.std.specs.Int.{int_min, int_max}
 use Rattle.std.specs.List.{list_any, filter_map, find, zip}
 use Rattle.std.specs.Option.{option_map, option_and_then, option_or, unwrap_or}
+use Rattle.td_cols.specs.declared.kinds.Kind.{Kind}
 use Rattle.td_cols.specs.declared.kinds.Kind.TheVariants.{Time}
 use Rattle.td_layer.specs.declared.values.Value.{Value}
 use Rattle.td_layer.specs.declared.values.Cell.{Cell}
@@ -140,14 +141,25 @@ abbrev pub chosen : List Column → Option (List (List ℕ)) → List Column
 chosen columns None = columns
 chosen columns (Some names) = filter_map (column_named columns) names
 
--- the literal at the column of a name, in a group of literals at columns
-abbrev pub literal_of : List Column → List Lit → List ℕ → Option Lit
-literal_of places group name = option_and_then (slice_get group) (position (is_named name) places)
+-- the place of the column of a name in a list, and of a table's first column
+abbrev pub place_of : List Column → List ℕ → Option ℕ
+place_of places name = position (is_named name) places
 
--- the timestamp of a group of a table: what the literal at its first column says
-abbrev pub time_in : List Column → List Column → ℕ → List Lit → Option ℤ
-time_in [] places moment group = None
-time_in (c ∷ cs) places moment group = option_and_then (number_at Time moment) (literal_of places group c.name)
+abbrev pub first_place : List Column → List Column → Option ℕ
+first_place [] places = None
+first_place (c ∷ cs) places = place_of places c.name
+
+-- the literal at a place of a group
+abbrev pub literal_at : List Lit → Option ℕ → Option Lit
+literal_at group place = option_and_then (slice_get group) place
+
+-- the timestamp that the literal there says
+abbrev pub time_at : ℕ → List Lit → Option ℕ → Option ℤ
+time_at moment group place = option_and_then (number_at Time moment) (literal_at group place)
+
+-- the value that the literal there has at a column of a kind
+abbrev pub cell_at : ℕ → List Lit → Kind → Option ℕ → Option Value
+cell_at moment group kind place = option_map (value_of kind moment) (literal_at group place)
 
 abbrev pub is_before : ℕ → Option ℤ → Bool
 is_before edge None = false
@@ -162,19 +174,15 @@ abbrev pub time_from : ℤ → ℕ
 time_from (pos n) = min n last_time
 time_from (negsuc n) = 0
 
--- a group as a put: each column but the first has its literal's value, and one that isn't chosen isn't named
-abbrev pub cell_in : List Column → ℕ → List Lit → Column → Option Value
-cell_in places moment group c = option_map (value_of c.kind moment) (literal_of places group c.name)
-
+-- A group as a put into a table: each column but the first has its literal's value, and one that isn't chosen isn't named.
 abbrev pub put_of : ℕ → List Column → List Column → ℕ → List Lit → Put
 put_of table columns places moment group = record {
-  key = record { table = table; ts = time_from (unwrap_or (time_in columns places moment group) (pos 0)) };
-  cells = map (cell_in places moment group) (drop 1 columns);
-}
+    key = record { table = table; ts = time_from (unwrap_or (time_at moment group (first_place columns places)) (pos 0)) };
+    cells = map (λ c. cell_at moment group c.kind (place_of places c.name)) (drop 1 columns) }
 
 -- an INSERT or a DELETE names no table
-abbrev pub target_cause : List ℕ → Catalog → Option Cause
-target_cause table c = first_cause (
+abbrev pub written_cause : List ℕ → Catalog → Option Cause
+written_cause table c = first_cause (
     when (not (is_taken table c)) cause.UnknownTable
     ∷ when (is_target table c) cause.TargetOfStream
     ∷ when (is_stable table c) cause.NotATable
@@ -195,13 +203,13 @@ groups_cause columns places groups edge moment = first_cause (
     ∷ mismatch_of (first_given (first_column (is_mismatch moment) places) groups)
     ∷ outside_of (first_given (first_column (is_outside columns moment) places) groups)
     ∷ when (nat_lt 16384 (length groups)) (cause.TooMany many.Rows 16384)
-    ∷ when (list_any (λ group. is_before edge (time_in columns places moment group)) groups) (cause.BeforeEdge edge)
+    ∷ when (list_any (λ group. is_before edge (time_at moment group (first_place columns places))) groups) (cause.BeforeEdge edge)
     ∷ [])
 
 abbrev pub insert_in : List ℕ → List Column → Option (List (List ℕ)) → List (List Lit) → ℕ → ℕ → Catalog → Verdict
 insert_in table columns names groups edge moment c =
     accepted_or
-    (first_cause (target_cause table c ∷ list_cause columns names ∷ groups_cause columns (chosen columns names) groups edge moment ∷ []))
+    (first_cause (written_cause table c ∷ list_cause columns names ∷ groups_cause columns (chosen columns names) groups edge moment ∷ []))
     (what.Put (map (put_of (number_or_none (table_named table c)) columns (chosen columns names) moment) groups))
     (length groups)
 
@@ -216,7 +224,7 @@ bad_bound column moment bound = when (is_none (number_at Time moment bound)) (ca
 
 abbrev pub delete_cause : List ℕ → List Column → List ℕ → Lit → Lit → ℕ → Catalog → Option Cause
 delete_cause table columns column lo hi moment c = first_cause (
-    target_cause table c
+    written_cause table c
     ∷ when (not (is_first columns column)) cause.NeedsTime
     ∷ bad_bound column moment lo
     ∷ bad_bound column moment hi
