@@ -7,11 +7,13 @@
 mod columns;
 mod found;
 mod groups;
+mod insert;
 mod make;
 mod names;
 mod slots;
 mod subtables;
 mod values;
 
+pub use insert::bind_insert;
 pub use make::{bind_make_stable, bind_make_table};
 pub use subtables::bind_make_sub;

@@ -177,8 +177,9 @@ time_from (negsuc n) = 0
 -- A group as a put into a table: each column but the first has its literal's value, and one that isn't chosen isn't named.
 abbrev pub put_of : ℕ → List Column → List Column → ℕ → List Lit → Put
 put_of table columns places moment group = record {
-    key = record { table = table; ts = time_from (unwrap_or (time_at moment group (first_place columns places)) (pos 0)) };
-    cells = map (λ c. cell_at moment group c.kind (place_of places c.name)) (drop 1 columns) }
+  key = record { table = table; ts = time_from (unwrap_or (time_at moment group (first_place columns places)) (pos 0)) };
+  cells = map (λ c. cell_at moment group c.kind (place_of places c.name)) (drop 1 columns);
+}
 
 -- an INSERT or a DELETE names no table
 abbrev pub written_cause : List ℕ → Catalog → Option Cause
@@ -196,22 +197,32 @@ list_cause columns names = first_cause (
     ∷ when (list_any (λ name. is_none (column_named columns name)) (listed names)) cause.UnknownColumn
     ∷ [])
 
+-- of the number of the groups, and of their timestamps
+abbrev pub rows_cause : List Column → List Column → List (List Lit) → ℕ → ℕ → Option Cause
+rows_cause columns places groups edge moment = first_cause (
+    when (nat_lt 16384 (length groups)) (cause.TooMany many.Rows 16384)
+    ∷ when (list_any (λ group. is_before edge (time_at moment group (first_place columns places))) groups) (cause.BeforeEdge edge)
+    ∷ [])
+
 -- of the groups
 abbrev pub groups_cause : List Column → List Column → List (List Lit) → ℕ → ℕ → Option Cause
 groups_cause columns places groups edge moment = first_cause (
     when (list_any (λ group. not (length group == length places)) groups) cause.Arity
     ∷ mismatch_of (first_given (first_column (is_mismatch moment) places) groups)
     ∷ outside_of (first_given (first_column (is_outside columns moment) places) groups)
-    ∷ when (nat_lt 16384 (length groups)) (cause.TooMany many.Rows 16384)
-    ∷ when (list_any (λ group. is_before edge (time_at moment group (first_place columns places))) groups) (cause.BeforeEdge edge)
+    ∷ rows_cause columns places groups edge moment
     ∷ [])
+
+abbrev pub groups_verdict : ℕ → List Column → List Column → List (List Lit) → ℕ → ℕ → Verdict
+groups_verdict table columns places groups edge moment = accepted_or (groups_cause columns places groups edge moment) (what.Put (map (put_of table columns places moment) groups)) (length groups)
+
+abbrev pub refused_or : Option Cause → Verdict → Verdict
+refused_or None verdict = verdict
+refused_or (Some cause) verdict = Refuse cause
 
 abbrev pub insert_in : List ℕ → List Column → Option (List (List ℕ)) → List (List Lit) → ℕ → ℕ → Catalog → Verdict
 insert_in table columns names groups edge moment c =
-    accepted_or
-    (first_cause (written_cause table c ∷ list_cause columns names ∷ groups_cause columns (chosen columns names) groups edge moment ∷ []))
-    (what.Put (map (put_of (number_or_none (table_named table c)) columns (chosen columns names) moment) groups))
-    (length groups)
+    refused_or (first_cause (written_cause table c ∷ list_cause columns names ∷ [])) (groups_verdict (number_or_none (table_named table c)) columns (chosen columns names) groups edge moment)
 
 abbrev pub insert_verdict : List ℕ → Option (List (List ℕ)) → List (List Lit) → ℕ → ℕ → Catalog → Verdict
 insert_verdict table names groups edge moment c = insert_in table (table_schema (table_named table c) c).columns names groups edge moment c
