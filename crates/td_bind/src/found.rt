@@ -3,10 +3,12 @@ ghost use Rattle.std.specs.Prelude.{◌≡◌, IfSome, Some};
 ghost use Rattle.std.specs.Option.{option_map};
 ghost use Rattle.td_model.specs.Catalog.{stable_named, table_named};
 ghost use Rattle.td_verdict.specs.Names.{stable_schema, table_schema};
+ghost use Rattle.td_verdict.specs.Writes.{written_cause};
 
+use crate::names::is_taken;
 use td_catalog::Catalog;
 use td_layer::Name;
-use td_model::Schema;
+use td_model::{Cause, Schema};
 
 // The supertable of a name: its number and its schema.
 #[tactic(auto, using(crate::proofs::Numbers::stable_numbered))]
@@ -26,4 +28,20 @@ pub(crate) fn find_table<'a>(catalog: &'a Catalog, name: &Name) -> Option<(u32, 
 {
     let number = catalog.find_table(name)?;
     Some((number, catalog.schema_of(number)))
+}
+
+// Why an INSERT into or a DELETE from what a name names is refused, if it is no table's.
+pub(crate) fn written_cause(name: &Name, catalog: &Catalog) -> Option<Cause>
+    ensures { result ≡ written_cause name.now catalog.now.catalog }
+{
+    if !is_taken(name, catalog) {
+        return Some(Cause::UnknownTable);
+    }
+    if catalog.find_target(name).is_some() {
+        return Some(Cause::TargetOfStream);
+    }
+    if catalog.find_stable(name).is_some() {
+        return Some(Cause::NotATable);
+    }
+    None
 }

@@ -7,9 +7,9 @@ ghost use Rattle.td_verdict.specs.Writes.{time_at, written_cause, list_cause, gr
 ghost use Rattle.td_bind.specs.Answers.{verdict_of};
 
 use crate::columns::{mismatch_of, outside_of};
-use crate::found::find_table;
+use crate::found::{find_table, written_cause};
 use crate::groups::{Fault, first_in_groups};
-use crate::names::{is_first, is_taken, same, stands_twice};
+use crate::names::{is_first, same, stands_twice};
 use crate::slots::{first_place, puts_of, time_at};
 use std::alloc::Global;
 use td_catalog::Catalog;
@@ -20,22 +20,6 @@ use td_model::{Cause, Column, Lit, Many, What};
 const MOST_ROWS: usize = 16_384;
 /// A day range in milliseconds.
 const DAY_RANGE: i128 = 864_000_000;
-
-// Why an INSERT into or a DELETE from what a name names is refused, if it is no table's.
-pub(crate) fn written_cause(name: &Name, catalog: &Catalog) -> Option<Cause>
-    ensures { result ≡ written_cause name.now catalog.now.catalog }
-{
-    if !is_taken(name, catalog) {
-        return Some(Cause::UnknownTable);
-    }
-    if catalog.find_target(name).is_some() {
-        return Some(Cause::TargetOfStream);
-    }
-    if catalog.find_stable(name).is_some() {
-        return Some(Cause::NotATable);
-    }
-    None
-}
 
 // The column of a name.
 fn column_named<'a>(columns: &'a [Column], name: &Name) -> Option<&'a Column>

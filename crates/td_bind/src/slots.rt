@@ -11,7 +11,7 @@ use td_layer::{Key, Name, NoMem, Seq, Value};
 use td_model::{Column, Kind, Lit, Put};
 
 /// The last millisecond of the year 9999.
-const LAST_TIME: i128 = 253_402_300_799_999;
+pub(crate) const LAST_TIME: i128 = 253_402_300_799_999;
 
 /// Where the literals of a column stand in a group, if it has one, and the column's kind.
 #[derive(Clone, Copy)]

@@ -1,6 +1,6 @@
 -- What a write meets in a catalog, at a retention edge and a moment in milliseconds since 1970. Of each form its causes stand
 -- in their one order, and within one cause its places in the order of the text; then what it is accepted as.
-use Rattle.std.specs.Prelude.{ℕ, ◌+◌, ◌-◌, ◌*◌, ◌/◌, max, min, ℤ, pos, negsuc, int_lt, Bool, false, not, ◌&&◌, ◌||◌, ◌==◌, nat_lt, nat_le, if◌then◌else◌, List, [], ◌∷◌, ◌++◌, map, length, drop, Option, Some, None, is_none, position, slice_get}
+use Rattle.std.specs.Prelude.{ℕ, ◌+◌, ◌-◌, ◌*◌, ◌/◌, max, min, ℤ, pos, negsuc, int_lt, Bool, true, false, not, ◌&&◌, ◌||◌, ◌==◌, nat_lt, nat_le, if◌then◌else◌, List, [], ◌∷◌, ◌++◌, map, length, drop, Option, Some, None, is_none, position, slice_get}
 use Rattle.std.specs.Int.{int_min, int_max}
 use Rattle.std.specs.List.{list_any, filter_map, find, zip}
 use Rattle.std.specs.Option.{option_map, option_and_then, option_or, unwrap_or}
@@ -273,6 +273,18 @@ abbrev pub drop_stream_verdict : List ℕ → Catalog → Verdict
 drop_stream_verdict name c = accepted_or (when (not (is_stream name c)) cause.UnknownStream) (what.DropStream (number_or_none (stream_named name c))) 0
 
 -- ---- all
+
+-- whether a statement is a write: CREATE, INSERT, DELETE, TRIM or DROP
+abbrev pub is_write : Stmt → Bool
+is_write (stmt.MakeStable name columns tags) = true
+is_write (stmt.MakeTable name columns) = true
+is_write (stmt.MakeSub name stable tags) = true
+is_write (stmt.Insert table columns rows) = true
+is_write (stmt.Delete table column lo hi) = true
+is_write (stmt.MakeStream def) = true
+is_write stmt.Trim = true
+is_write (stmt.DropStream name) = true
+is_write _ = false
 
 -- What a write meets. CREATE STREAM is not built yet. Any other statement passes, and a text that is no statement has its cause.
 abbrev pub write_verdict : Stmt → Catalog → ℕ → ℕ → Verdict
