@@ -2,3 +2,4 @@ pub mod Times
 pub mod Lists
 pub mod Numbers
 pub mod PutsBySlots
+pub mod Follows
