@@ -20,4 +20,7 @@ pub use insert::bind_insert;
 pub use make::{bind_make_stable, bind_make_table};
 pub use remove::{bind_delete, bind_drop_stream, bind_trim};
 pub use subtables::bind_make_sub;
-pub use write::bind_write;
+pub use write::{bind_write, is_write};
+
+#[cfg(test)]
+mod tests;
