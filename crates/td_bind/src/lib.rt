@@ -1,5 +1,11 @@
 //! The verdict of a write over the whole language.
 //!
+//! [`bind_write`] says what a write meets in a catalog, at a retention edge and a moment: accepted, as an entry of the history
+//! with its count of rows, or refused with the first cause that applies. It promises that this is the verdict of the
+//! definitions (`td_verdict`), and that the catalog can take what is accepted. Each form has a call of its own with the same
+//! promise of its verdict. CREATE STREAM is refused as not built yet. That want of memory comes only where there is none is
+//! shown by tests, and by no contract.
+//!
 //! It stands on `td_verdict` for the definitions, on `td_catalog` for names and schemas, and on `td_lex` for the texts of
 //! timestamps.
 #![tactic(auto)]
