@@ -3,3 +3,4 @@ pub mod Lists
 pub mod Numbers
 pub mod PutsBySlots
 pub mod Follows
+pub mod Twice

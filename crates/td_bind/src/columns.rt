@@ -7,7 +7,7 @@ ghost use Rattle.td_verdict.specs.Names.{names_of};
 ghost use Rattle.td_verdict.specs.Values.{has_width};
 ghost use Rattle.td_verdict.specs.Writes.{have_one_name, width_cause, mismatch_of, outside_of};
 
-use crate::names::stands_twice;
+use crate::seen::stands_twice;
 use crate::values::has_width;
 use std::alloc::Global;
 use td_layer::{Copied, Name, NoMem, Seq};
@@ -37,7 +37,8 @@ pub(crate) fn have_one_name(
     let mut names = Seq::new(alloc);
     add_names(&mut names, columns)?;
     add_names(&mut names, tags)?;
-    Ok(stands_twice(names.as_slice()))
+    let twice = stands_twice(alloc, names.as_slice())?;
+    Ok(twice)
 }
 
 // The first column whose text's bytes are outside 1 to 4096.

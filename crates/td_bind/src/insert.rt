@@ -9,7 +9,8 @@ ghost use Rattle.td_bind.specs.Answers.{verdict_of};
 use crate::columns::{mismatch_of, outside_of};
 use crate::found::{find_table, written_cause};
 use crate::groups::{Fault, first_in_groups};
-use crate::names::{is_first, same, stands_twice};
+use crate::names::{is_first, same};
+use crate::seen::stands_twice;
 use crate::slots::{first_place, puts_of, time_at};
 use std::alloc::Global;
 use td_catalog::Catalog;
@@ -49,20 +50,28 @@ fn lists_unknown(columns: &[Column], names: &[Name]) -> bool
 }
 
 // Why a list of columns is refused, if it is.
-fn list_cause(columns: &[Column], names: Option<&Seq<Name>>) -> Option<Cause>
-    ensures { result ≡ list_cause columns.now (option_copied names.entry) }
+fn list_cause(
+    alloc: Global,
+    columns: &[Column],
+    names: Option<&Seq<Name>>,
+) -> Result<Option<Cause>, NoMem>
+    ensures { IfOk result (λ cause. cause ≡ list_cause columns.now (option_copied names.entry)) }
 {
-    let names = names?.as_slice();
-    if stands_twice(names) {
-        return Some(Cause::NameTaken);
+    let Some(names) = names else {
+        return Ok(None);
+    };
+    let names = names.as_slice();
+    let twice = stands_twice(alloc, names)?;
+    if twice {
+        return Ok(Some(Cause::NameTaken));
     }
     if !lists_first(columns, names) {
-        return Some(Cause::NeedsTime);
+        return Ok(Some(Cause::NeedsTime));
     }
     if lists_unknown(columns, names) {
-        return Some(Cause::UnknownColumn);
+        return Ok(Some(Cause::UnknownColumn));
     }
-    None
+    Ok(None)
 }
 
 // Copies of the columns of a list.
@@ -198,7 +207,8 @@ pub fn bind_insert(
         return Ok(Err(Cause::UnknownTable));
     };
     let columns = schema.columns.as_slice();
-    if let Some(cause) = list_cause(columns, names) {
+    let cause = list_cause(alloc, columns, names)?;
+    if let Some(cause) = cause {
         return Ok(Err(cause));
     }
     let groups = groups.as_slice();

@@ -6,8 +6,8 @@
 //! promise of its verdict. CREATE STREAM is refused as not built yet. That want of memory comes only where there is none is
 //! shown by tests, and by no contract.
 //!
-//! It stands on `td_verdict` for the definitions, on `td_catalog` for names and schemas, and on `td_lex` for the texts of
-//! timestamps.
+//! It stands on `td_verdict` for the definitions, on `td_catalog` for names and schemas, on `td_lex` for the texts of
+//! timestamps, and on `indexmap` for names that were seen before.
 #![tactic(auto)]
 
 mod columns;
@@ -17,6 +17,7 @@ mod insert;
 mod make;
 mod names;
 mod remove;
+mod seen;
 mod slots;
 mod subtables;
 mod values;

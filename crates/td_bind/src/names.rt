@@ -35,25 +35,6 @@ pub(crate) fn same(a: &Name, b: &Name) -> bool
     a.as_slice() == b.as_slice()
 }
 
-// Whether a name is one of others.
-fn is_among(name: &Name, others: &[Name]) -> bool
-    ensures { result ≡ list_any (bytes_eq name.now) others.now }
-{
-    others.iter().any(|other| same(name, other))
-}
-
-// Whether a name stands twice.
-pub(crate) fn stands_twice(names: &[Name]) -> bool
-    ensures { result ≡ stands_twice names.now }
-{
-    for (i, name) in names.iter().enumerate() {
-        if is_among(name, &names[i + 1..]) {
-            return true;
-        }
-    }
-    false
-}
-
 // Whether the columns' first has a name.
 pub(crate) fn is_first(columns: &[Column], name: &Name) -> bool
     ensures { result ≡ is_first columns.now name.now }
