@@ -1,0 +1,6 @@
+pub mod Times
+pub mod Lists
+pub mod Numbers
+pub mod PutsBySlots
+pub mod Follows
+pub mod Twice

@@ -1,0 +1,234 @@
+//! INSERT.
+ghost use Rattle.std.specs.Prelude.{◌≡◌, ◌<◌, ◌≤◌, ◌^◌, Bool, [], IfOk, OnSome, OnOk, IfNone, length, None, is_none, not, ◌==◌, nat_lt};
+ghost use Rattle.std.specs.List.{filter_map, find, list_any};
+ghost use Rattle.std.specs.Option.{option_copied};
+ghost use Rattle.td_verdict.specs.Names.{column_named, is_first};
+ghost use Rattle.td_verdict.specs.Writes.{time_at, written_cause, list_cause, groups_cause, rows_cause, groups_verdict, chosen, is_before, insert_in, insert_verdict};
+ghost use Rattle.td_bind.specs.Answers.{verdict_of};
+
+use crate::columns::{mismatch_of, outside_of};
+use crate::found::{find_table, written_cause};
+use crate::groups::{Fault, first_in_groups};
+use crate::names::{is_first, same};
+use crate::seen::stands_twice;
+use crate::slots::{first_place, puts_of, time_at};
+use std::alloc::Global;
+use td_catalog::Catalog;
+use td_layer::{Copied, Name, NoMem, Seq};
+use td_model::{Cause, Column, Lit, Many, What};
+
+/// The most groups of an INSERT.
+const MOST_ROWS: usize = 16_384;
+/// A day range in milliseconds.
+const DAY_RANGE: i128 = 864_000_000;
+
+// The column of a name.
+fn column_named<'a>(columns: &'a [Column], name: &Name) -> Option<&'a Column>
+    ensures { option_copied result ≡ column_named columns.now name.now }
+{
+    columns.iter().find(|column| same(&column.name, name))
+}
+
+// Whether a list has the first column's name.
+fn lists_first(columns: &[Column], names: &[Name]) -> bool
+    ensures { result ≡ list_any (is_first columns.now) names.now }
+{
+    names.iter().any(|name| is_first(columns, name))
+}
+
+fn is_unknown(columns: &[Column], name: &Name) -> bool
+    ensures { result ≡ is_none (column_named columns.now name.now) }
+{
+    column_named(columns, name).is_none()
+}
+
+// Whether a list has a name that is no column's.
+fn lists_unknown(columns: &[Column], names: &[Name]) -> bool
+    ensures { result ≡ list_any (λ name. is_none (column_named columns.now name)) names.now }
+{
+    names.iter().any(|name| is_unknown(columns, name))
+}
+
+// Why a list of columns is refused, if it is.
+fn list_cause(
+    alloc: Global,
+    columns: &[Column],
+    names: Option<&Seq<Name>>,
+) -> Result<Option<Cause>, NoMem>
+    ensures { IfOk result (λ cause. cause ≡ list_cause columns.now (option_copied names.entry)) }
+{
+    let Some(names) = names else {
+        return Ok(None);
+    };
+    let names = names.as_slice();
+    let twice = stands_twice(alloc, names)?;
+    if twice {
+        return Ok(Some(Cause::NameTaken));
+    }
+    if !lists_first(columns, names) {
+        return Ok(Some(Cause::NeedsTime));
+    }
+    if lists_unknown(columns, names) {
+        return Ok(Some(Cause::UnknownColumn));
+    }
+    Ok(None)
+}
+
+// Copies of the columns of a list.
+fn chosen(alloc: Global, columns: &[Column], names: &[Name]) -> Result<Seq<Column>, NoMem>
+    ensures { IfOk result (λ places. places ≡ filter_map (column_named columns.now) names.now) }
+{
+    let mut places = Seq::new(alloc);
+    for name in names {
+        if let Some(column) = column_named(columns, name) {
+            let column = column.copy()?;
+            if places.push(column).is_err() {
+                return Err(NoMem);
+            }
+        }
+    }
+    Ok(places)
+}
+
+// Whether a timestamp lies before an edge.
+fn is_before(edge: u32, ts: Option<i128>) -> bool
+    ensures { result ≡ is_before edge ts }
+{
+    match ts {
+        Some(ts) => ts < i128::from(edge) * DAY_RANGE,
+        None => false,
+    }
+}
+
+fn is_group_before(edge: u32, moment: u64, group: &[Lit], first: Option<usize>) -> bool
+    ensures { result ≡ is_before edge (time_at moment group.now first) }
+{
+    is_before(edge, time_at(moment, group, first))
+}
+
+// Whether the timestamp of a group lies before an edge.
+fn any_before(edge: u32, moment: u64, groups: &[Seq<Lit>], first: Option<usize>) -> bool
+    ensures { result ≡ list_any (λ group. is_before edge (time_at moment group first)) groups.now }
+{
+    groups.iter().any(|group| is_group_before(edge, moment, group.as_slice(), first))
+}
+
+// Whether a group has another count of literals.
+fn has_other_length(groups: &[Seq<Lit>], count: usize) -> bool
+    ensures { result ≡ list_any (λ group. not (length group == count)) groups.now }
+{
+    groups.iter().any(|group| group.len() != count)
+}
+
+// Why the number or the timestamps of groups are refused, if they are.
+fn rows_cause(
+    columns: &[Column],
+    places: &[Column],
+    groups: &[Seq<Lit>],
+    edge: u32,
+    moment: u64,
+) -> Option<Cause>
+    ensures { result ≡ rows_cause columns.now places.now groups.now edge moment }
+{
+    if groups.len() > MOST_ROWS {
+        return Some(Cause::TooMany {
+            what: Many::Rows,
+            limit: 16_384,
+        });
+    }
+    let first = first_place(columns, places);
+    if any_before(edge, moment, groups, first) {
+        return Some(Cause::BeforeEdge { edge });
+    }
+    None
+}
+
+// Why groups are refused, whose literals stand at the columns `places`, if they are.
+fn groups_cause(
+    columns: &[Column],
+    places: &[Column],
+    groups: &[Seq<Lit>],
+    edge: u32,
+    moment: u64,
+) -> Result<Option<Cause>, NoMem>
+    ensures { IfOk result (λ cause. cause ≡ groups_cause columns.now places.now groups.now edge moment) }
+{
+    if has_other_length(groups, places.len()) {
+        return Ok(Some(Cause::Arity));
+    }
+    let mismatch = mismatch_of(first_in_groups(Fault::Mismatch, columns, places, groups, moment))?;
+    if mismatch.is_some() {
+        return Ok(mismatch);
+    }
+    let outside = outside_of(first_in_groups(Fault::Outside, columns, places, groups, moment))?;
+    if outside.is_some() {
+        return Ok(outside);
+    }
+    Ok(rows_cause(columns, places, groups, edge, moment))
+}
+
+// What the groups of an INSERT into a table meet, where its list of columns isn't refused.
+fn bind_groups(
+    alloc: Global,
+    table: u32,
+    columns: &[Column],
+    places: &[Column],
+    groups: &[Seq<Lit>],
+    edge: u32,
+    moment: u64,
+) -> Result<Result<(What, u32), Cause>, NoMem>
+    ensures { IfOk result (λ answer. verdict_of answer ≡ groups_verdict table columns.now places.now groups.now edge moment) }
+{
+    let cause = groups_cause(columns, places, groups, edge, moment)?;
+    if let Some(cause) = cause {
+        return Ok(Err(cause));
+    }
+    let puts = puts_of(alloc, table, columns, places, moment, groups)?;
+    Ok(Ok((What::Put(puts), groups.len() as u32)))
+}
+
+/// What INSERT meets in a catalog, at a retention edge and a moment in milliseconds since 1970. `names` are the columns that
+/// it lists.
+pub fn bind_insert(
+    alloc: Global,
+    table: &Name,
+    names: Option<&Seq<Name>>,
+    groups: &Seq<Seq<Lit>>,
+    catalog: &Catalog,
+    edge: u32,
+    moment: u64,
+) -> Result<Result<(What, u32), Cause>, NoMem>
+    ensures { IfOk result (λ answer. verdict_of answer ≡ insert_verdict table.now (option_copied names.entry) groups.now edge moment catalog.now.catalog) }
+{
+    if let Some(cause) = written_cause(table, catalog) {
+        return Ok(Err(cause));
+    }
+    let Some((number, schema)) = find_table(catalog, table) else {
+        return Ok(Err(Cause::UnknownTable));
+    };
+    let columns = schema.columns.as_slice();
+    let cause = list_cause(alloc, columns, names)?;
+    if let Some(cause) = cause {
+        return Ok(Err(cause));
+    }
+    let groups = groups.as_slice();
+    match names {
+        None => {
+            let answer = bind_groups(alloc, number, columns, columns, groups, edge, moment)?;
+            Ok(answer)
+        }
+        Some(names) => {
+            let places = chosen(alloc, columns, names.as_slice())?;
+            let answer = bind_groups(
+                alloc,
+                number,
+                columns,
+                places.as_slice(),
+                groups,
+                edge,
+                moment,
+            )?;
+            Ok(answer)
+        }
+    }
+}

@@ -1,0 +1,33 @@
+//! The verdict of a write over the whole language.
+//!
+//! [`bind_write`] says what a write meets in a catalog, at a retention edge and a moment: accepted, as an entry of the history
+//! with its count of rows, or refused with the first cause that applies. It promises that this is the verdict of the
+//! definitions (`td_verdict`), and that the catalog can take what is accepted. Each form has a call of its own with the same
+//! promise of its verdict. CREATE STREAM is refused as not built yet. That want of memory comes only where there is none is
+//! shown by tests, and by no contract.
+//!
+//! It stands on `td_verdict` for the definitions, on `td_catalog` for names and schemas, on `td_lex` for the texts of
+//! timestamps, and on `indexmap` for names that were seen before.
+#![tactic(auto)]
+
+mod columns;
+mod found;
+mod groups;
+mod insert;
+mod make;
+mod names;
+mod remove;
+mod seen;
+mod slots;
+mod subtables;
+mod values;
+mod write;
+
+pub use insert::bind_insert;
+pub use make::{bind_make_stable, bind_make_table};
+pub use remove::{bind_delete, bind_drop_stream, bind_trim};
+pub use subtables::bind_make_sub;
+pub use write::{bind_write, is_write};
+
+#[cfg(test)]
+mod tests;

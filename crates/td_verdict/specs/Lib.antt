@@ -1,0 +1,5 @@
+pub mod Causes
+pub mod Names
+pub mod Values
+pub mod Streams
+pub mod Writes
