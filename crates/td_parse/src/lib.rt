@@ -9,6 +9,8 @@
 //! The productions are those by which a text is read with one token of lookahead. The grammar as the language's description
 //! writes it, each statement whole, is stated too (`specs/Written`), and both derive the same trees (`as_it_is_written`).
 //!
+//! `script`, which reads the lines of a script, is `td_script`'s, and is given on from here.
+//!
 //! It stands on `td_clauses`, which reads queries and lists of names and literals, on `td_grammar`, which has the reading of
 //! tokens by grammars, on `td_lex`, whose tokens these are, and on `td_model`, whose trees these are.
 #![tactic(auto)]
@@ -22,4 +24,5 @@ mod text;
 mod writes;
 
 pub use laws::{as_it_is_written, final_semicolon, one_answer, one_tree, same_tokens};
+pub use td_script::{Line, ScriptFault, script};
 pub use text::statement;
