@@ -1,8 +1,8 @@
 //! The words of scripts, histories and reports, and the definitions that every layer above meets.
 //!
 //! The types are those of the statement language (`language`), of the catalog (`catalog`), of entries and verdicts
-//! (`history`), of windows and their results (`windows`), and of reports (`report`); each promises that its copy equals
-//! what it copies. The definitions that don't go by the forms of statement stand in `specs/`, one file a subject: `Catalog`
+//! (`history`), of windows and their results (`windows`), of the plan of a query (`plan`), and of reports (`report`); each
+//! that is copied promises that its copy equals what it copies. The definitions that don't go by the forms of statement stand in `specs/`, one file a subject: `Catalog`
 //! (tables, supertables and streams by name and number, and what an entry makes of them), `State` (what an entry makes of a
 //! state, and a history of all its entries), `Tags` (which subtables a comparison of a tag gives), `Text` (the bytes of a
 //! report) and `Printable` (which reports a text tells apart). Those that widen with the forms stand in `td_told`.
@@ -13,6 +13,7 @@
 mod catalog;
 mod history;
 mod language;
+mod plan;
 mod report;
 mod windows;
 
@@ -21,6 +22,7 @@ pub use history::{Entry, Put, Verdict, What};
 pub use language::{
     Cond, Item, ItemKind, Lit, Op, OrderBy, PartBy, Query, Stmt, StreamDef, Trigger, WindowDef,
 };
+pub use plan::Plan;
 pub use report::{Cause, JournalLine, Many, Mark, Reply, Report};
 pub use td_cols::{Kind, in_range};
 pub use td_layer::{Cell, Func};

@@ -3,3 +3,7 @@ pub mod Names
 pub mod Values
 pub mod Streams
 pub mod Writes
+pub mod Fields
+pub mod Queries
+pub mod Plans
+pub mod Answers

@@ -1,8 +1,13 @@
-//! What a write meets in a catalog: the definitions.
+//! What a statement meets in a catalog, and what a query answers: the definitions.
 //!
-//! They stand in `specs/`, one file a subject: `Causes` (the one order of the causes), `Names` (which names are taken, and
-//! what they name), `Values` (what a literal says at a column or a tag), `Writes` (what each form of a write meets), and
-//! `Streams` (what CREATE STREAM meets, beside its query). Worked rows are computed in
-//! `proofs/Worked.antt`. Nothing runs here; `td_bind` gives these verdicts. It stands on `td_model`, `td_lex`, `td_layer` and
-//! `td_cols`.
+//! They stand in `specs/`, one file a subject. Of verdicts: `Causes` (the one order of the causes), `Names` (which names are
+//! taken, and what they name), `Values` (what a literal says at a column or a tag), `Writes` (what each form of a write
+//! meets), `Queries` (what a row query meets), and `Streams` (what CREATE STREAM meets, beside its query). Of answers:
+//! `Fields` (the cells of a row, and comparisons of them), `Plans` (what a query reads), and `Answers` (which rows a query
+//! picks, and its header). Worked rows are computed in `proofs/`. The one type is [`Comparison`]; nothing runs here. `td_bind`
+//! gives these verdicts and plans, and `td_rows` these answers. It stands on `td_model`, `td_lex`, `td_layer` and `td_cols`.
 #![tactic(auto)]
+
+mod comparison;
+
+pub use comparison::Comparison;

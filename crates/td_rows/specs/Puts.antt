@@ -1,0 +1,18 @@
+-- Rows after puts.
+use Rattle.std.specs.Prelude.{ℕ, List, [], ◌∷◌, map, filter}
+use Rattle.td_layer.specs.declared.values.Key.{Key}
+use Rattle.td_layer.specs.declared.values.Row.{Row}
+use Rattle.td_model.specs.declared.history.Put.{Put}
+use Rattle.td_model.specs.State.{Rows, row_at, with_row, lay, is_cut}
+
+-- the rows after one put at a moment, and after some, one after another
+abbrev pub row_after : ℕ → Put → Rows → Rows
+row_after moment p rows = with_row p.key (lay p.cells moment (row_at p.key rows)) rows
+
+abbrev pub rows_after : ℕ → List Put → Rows → Rows
+rows_after moment [] rows = rows
+rows_after moment (p ∷ ps) rows = rows_after moment ps (row_after moment p rows)
+
+-- the rows of a table's range of timestamps, whose ends belong to it, by timestamp
+abbrev pub range_of : ℕ → ℕ → ℕ → Rows → List (ℕ × Row)
+range_of table lo hi rows = map (λ (e : Key × Row). (e.0.ts, e.1)) (filter (λ (e : Key × Row). is_cut table lo hi e.0) rows)

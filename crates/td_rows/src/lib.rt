@@ -1,0 +1,10 @@
+//! Rows by key: found by search, put whole or not at all, and read by the range of a table.
+//!
+//! [`RowMap`] is what keeps rows by key.
+//!
+//! It stands on `td_model` for the definitions (`State`) and on `td_layer` for the types.
+#![tactic(auto)]
+
+mod rows;
+
+pub use rows::RowMap;

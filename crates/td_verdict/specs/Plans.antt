@@ -1,0 +1,113 @@
+-- What a row query reads: the tables of its source that its conditions on tags leave, and the timestamps that its conditions
+-- on the first column leave.
+use Rattle.std.specs.Prelude.{ℕ, ◌+◌, ◌-◌, min, max, ℤ, pos, negsuc, Bool, true, false, ◌==◌, nat_lt, if◌then◌else◌, List, [], ◌∷◌, map, filter, length, Option, Some, None, is_some}
+use Rattle.std.specs.Option.{option_map_or}
+use Rattle.td_layer.specs.declared.values.Cell.{Cell}
+use Rattle.td_model.specs.declared.catalog.TableDef.{TableDef}
+use Rattle.td_model.specs.declared.catalog.Schema.{Schema}
+use Rattle.td_model.specs.declared.language.Op.{Op}
+use Rattle.td_model.specs.declared.language.Op.TheVariants as op
+use Rattle.td_model.specs.declared.language.Query.{Query}
+use Rattle.td_model.specs.declared.plan.Plan.{Plan}
+use Rattle.td_model.specs.Catalog.{Catalog, stable_named, table_named}
+use Rattle.td_model.specs.Tags.{number_of, tag_matches}
+use Rattle.td_verdict.specs.declared.comparison.Comparison.{Comparison}
+use Rattle.td_verdict.specs.Fields.{comparisons_of}
+use Rattle.td_verdict.specs.Queries.{source_schema}
+use Rattle.td_verdict.specs.Writes.{last_time, time_from}
+
+-- ---- tables
+
+-- a table with its number
+abbrev pub Numbered : Type 0
+Numbered = ℕ × TableDef
+
+abbrev pub numbered : ℕ → List TableDef → List Numbered
+numbered n [] = []
+numbered n (t ∷ ts) = (n, t) ∷ numbered (n + 1) ts
+
+abbrev pub all_tables : Catalog → List Numbered
+all_tables c = numbered 1 c.tables
+
+-- the subtables of a catalog with their tags, by number
+abbrev pub subtables_of : Catalog → List (ℕ × List Cell)
+subtables_of c = map (λ (e : Numbered). (e.0, e.1.tags)) (filter (λ (e : Numbered). is_some e.1.parent) (all_tables c))
+
+-- whether a table is that of a number, or else a subtable of the supertable of a number
+abbrev pub is_in_source : Option ℕ → Option ℕ → Numbered → Bool
+is_in_source (Some n) stable e = e.0 == n
+is_in_source None None e = false
+is_in_source None (Some stable) e = option_map_or (λ parent. parent == stable) e.1.parent false
+
+-- the tables of a source, by number: the table of its name, or all subtables of the supertable of its name
+abbrev pub source_tables : List ℕ → Catalog → List Numbered
+source_tables source c = filter (is_in_source (table_named source c) (stable_named source c)) (all_tables c)
+
+-- whether a comparison is true of a table's tags, where it is one of a tag; the tags stand behind TBNAME and the columns
+abbrev pub holds_of_tags : ℕ → List Cell → Comparison → Bool
+holds_of_tags columns tags p = if nat_lt columns p.place then tag_matches (p.place - (columns + 1)) p.op p.operand tags else true
+
+abbrev pub all_hold_of_tags : ℕ → List Comparison → List Cell → Bool
+all_hold_of_tags columns [] tags = true
+all_hold_of_tags columns (p ∷ ps) tags = if holds_of_tags columns tags p then all_hold_of_tags columns ps tags else false
+
+-- the tables of the source that the comparisons of tags leave
+abbrev pub planned : Query → Catalog → List Numbered
+planned q c = filter (λ (e : Numbered). all_hold_of_tags (length (source_schema q.source c).columns) (comparisons_of (source_schema q.source c) q.conds) e.1.tags) (source_tables q.source c)
+
+-- ---- timestamps
+
+-- the timestamps above and below a number, brought into the range of time
+abbrev pub time_above : ℤ → ℕ
+time_above (pos n) = min (n + 1) last_time
+time_above (negsuc n) = 0
+
+abbrev pub time_below : ℤ → ℕ
+time_below (pos n) = min (n - 1) last_time
+time_below (negsuc n) = 0
+
+-- the least and the greatest timestamp that a comparison with a number leaves
+abbrev pub low_of : Op → ℤ → ℕ
+low_of op.Gt n = time_above n
+low_of op.Ge n = time_from n
+low_of op.Eq n = time_from n
+low_of _ n = 0
+
+abbrev pub high_of : Op → ℤ → ℕ
+high_of op.Lt n = time_below n
+high_of op.Le n = time_from n
+high_of op.Eq n = time_from n
+high_of _ n = last_time
+
+-- those that a comparison leaves: one of the first column, at place 1, with a number, or else all
+abbrev pub low : Comparison → ℕ
+low p = if p.place == 1 then option_map_or (low_of p.op) (number_of p.operand) 0 else 0
+
+abbrev pub high : Comparison → ℕ
+high p = if p.place == 1 then option_map_or (high_of p.op) (number_of p.operand) last_time else last_time
+
+abbrev pub lowest : List Comparison → ℕ
+lowest [] = 0
+lowest (p ∷ ps) = max (low p) (lowest ps)
+
+abbrev pub highest : List Comparison → ℕ
+highest [] = last_time
+highest (p ∷ ps) = min (high p) (highest ps)
+
+-- ---- the plan
+
+abbrev pub plan_over : Query → Schema → List Numbered → List Comparison → Plan
+plan_over q s tables ps = record {
+  query = q;
+  tables = map (λ (e : Numbered). e.0) tables;
+  parts = map (λ (e : Numbered). []) tables;
+  tags = map (λ (e : Numbered). e.1.tags) tables;
+  names = map (λ (e : Numbered). e.1.name) tables;
+  schema = s;
+  lo = lowest ps;
+  hi = highest ps;
+  target = None;
+}
+
+abbrev pub plan_of : Query → Catalog → Plan
+plan_of q c = plan_over q (source_schema q.source c) (planned q c) (comparisons_of (source_schema q.source c) q.conds)

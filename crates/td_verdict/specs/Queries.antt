@@ -1,0 +1,137 @@
+-- What a row query meets in a catalog: a SELECT without aggregate, window and PARTITION BY. Other queries aren't built yet, nor
+-- is the reading of a stream's target.
+use Rattle.std.specs.Prelude.{ℕ, ℤ, pos, int_le, Bool, true, false, not, ◌&&◌, ◌||◌, ◌==◌, if◌then◌else◌, List, [], ◌∷◌, length, Option, Some, None, is_none}
+use Rattle.std.specs.Ordering.{int_eq}
+use Rattle.std.specs.Str.{bytes_eq}
+use Rattle.std.specs.List.{list_any}
+use Rattle.std.specs.Option.{option_map_or}
+use lib.Chars.{codes}
+use Rattle.td_model.specs.declared.catalog.Column.{Column}
+use Rattle.td_model.specs.declared.catalog.Schema.{Schema}
+use Rattle.td_model.specs.declared.language.Item.{Item}
+use Rattle.td_model.specs.declared.language.ItemKind.{ItemKind}
+use Rattle.td_model.specs.declared.language.ItemKind.TheVariants as item
+use Rattle.td_model.specs.declared.language.Cond.{Cond}
+use Rattle.td_model.specs.declared.language.PartBy.{PartBy}
+use Rattle.td_model.specs.declared.language.PartBy.TheVariants as part
+use Rattle.td_model.specs.declared.language.OrderBy.{OrderBy}
+use Rattle.td_model.specs.declared.language.OrderBy.TheVariants as order
+use Rattle.td_model.specs.declared.language.Query.{Query}
+use Rattle.td_model.specs.declared.history.Verdict.{Verdict}
+use Rattle.td_model.specs.declared.history.Verdict.TheVariants.{Pass, Refuse}
+use Rattle.td_model.specs.declared.report.Cause.{Cause}
+use Rattle.td_model.specs.declared.report.Cause.TheVariants as cause
+use Rattle.td_model.specs.Catalog.{Catalog, stable_named, table_named}
+use Rattle.td_verdict.specs.Causes.{when, first_cause}
+use Rattle.td_verdict.specs.Names.{is_taken, is_target, table_schema, stable_schema, column_named, is_first}
+use Rattle.td_verdict.specs.Values.{suits}
+use Rattle.td_verdict.specs.Fields.{fields, part_column}
+use Rattle.td_verdict.specs.Streams.{is_whole, is_plain}
+use Rattle.td_verdict.specs.Writes.{first_given}
+
+-- ---- which queries are built
+
+abbrev pub is_aggregate : ItemKind → Bool
+is_aggregate item.CountAll = true
+is_aggregate (item.Fun func name) = true
+is_aggregate _ = false
+
+abbrev pub is_row_query : Query → Bool
+is_row_query q = not (list_any (λ (i : Item). is_aggregate i.what) q.items) && is_whole q.window && (length q.parts == 0)
+
+-- `SELECT *` with an optional LIMIT, whose OFFSET is 0 or not given: the one form that reads a target
+abbrev pub reads_all : Query → Bool
+reads_all q = q.star && (length q.conds == 0) && is_plain q.order && int_eq q.skip (pos 0)
+
+-- ---- the source
+
+-- the schema of a table, or else of a supertable
+abbrev pub schema_or : Option ℕ → Option ℕ → Catalog → Schema
+schema_or (Some n) stable c = table_schema (Some n) c
+schema_or None stable c = stable_schema stable c
+
+abbrev pub source_schema : List ℕ → Catalog → Schema
+source_schema source c = schema_or (table_named source c) (stable_named source c) c
+
+-- ---- causes
+
+abbrev pub target_cause : Query → Cause
+target_cause q = if reads_all q then cause.OptionNotBuilt else cause.TargetOfStream
+
+-- a name that is no column or tag
+abbrev pub is_unknown : Schema → List ℕ → Bool
+is_unknown s name = is_none (column_named (fields s) name)
+
+abbrev pub is_item_unknown : Schema → ItemKind → Bool
+is_item_unknown s (item.Col name) = is_unknown s name
+is_item_unknown s _ = false
+
+abbrev pub is_part_unknown : Schema → PartBy → Bool
+is_part_unknown s (part.Tag name) = is_unknown s name
+is_part_unknown s part.TbName = false
+
+-- the word of ORDER BY that names a window's start
+abbrev pub is_window_start : List ℕ → Bool
+is_window_start name = bytes_eq name (codes "_wstart")
+
+abbrev pub is_order_unknown : Schema → OrderBy → Bool
+is_order_unknown s order.Plain = false
+is_order_unknown s (order.Asc name) = not (is_window_start name) && is_unknown s name
+is_order_unknown s (order.Desc name) = not (is_window_start name) && is_unknown s name
+
+abbrev pub has_unknown : Schema → Query → Bool
+has_unknown s q = list_any (λ (i : Item). is_item_unknown s i.what) q.items || list_any (λ (c : Cond). is_part_unknown s c.of) q.conds || is_order_unknown s q.order
+
+-- a condition's literal doesn't suit its column or tag
+abbrev pub mismatch_at : Option Column → Cond → Option Cause
+mismatch_at None c = None
+mismatch_at (Some column) c = when (not (suits column.kind 0 c.lit)) (cause.TypeMismatch column.name)
+
+abbrev pub mismatch_cause : Schema → List Cond → Option Cause
+mismatch_cause s conds = first_given (λ (c : Cond). mismatch_at (part_column s c.of) c) conds
+
+-- an item needs a window
+abbrev pub needs_window : ItemKind → Bool
+needs_window item.WStart = true
+needs_window item.WEnd = true
+needs_window _ = false
+
+-- the order is by another thing than the first column
+abbrev pub is_order_other : List Column → OrderBy → Bool
+is_order_other columns order.Plain = false
+is_order_other columns (order.Asc name) = not (is_first columns name)
+is_order_other columns (order.Desc name) = not (is_first columns name)
+
+abbrev pub is_bad_selection : Schema → Query → Bool
+is_bad_selection s q = list_any (λ (i : Item). needs_window i.what) q.items || is_order_other s.columns q.order
+
+-- a count of rows of LIMIT or OFFSET is 0 to 4294967295
+abbrev pub is_count : ℤ → Bool
+is_count n = int_le (pos 0) n && int_le n (pos 4294967295)
+
+abbrev pub is_bad_limit : Query → Bool
+is_bad_limit q = not (is_count q.skip) || option_map_or (λ n. not (is_count n)) q.limit false
+
+-- the causes of a query over the schema of its source
+abbrev pub body_cause : Schema → Query → Option Cause
+body_cause s q = first_cause (
+    when (has_unknown s q) cause.UnknownColumn
+    ∷ mismatch_cause s q.conds
+    ∷ when (is_bad_selection s q) cause.BadSelect
+    ∷ when (is_bad_limit q) cause.BadLimit
+    ∷ [])
+
+abbrev pub query_cause : Query → Catalog → Option Cause
+query_cause q c = first_cause (
+    when (not (is_row_query q)) cause.OptionNotBuilt
+    ∷ when (not (is_taken q.source c)) cause.UnknownTable
+    ∷ when (is_target q.source c) (target_cause q)
+    ∷ body_cause (source_schema q.source c) q
+    ∷ [])
+
+abbrev pub passes_or : Option Cause → Verdict
+passes_or None = Pass
+passes_or (Some why) = Refuse why
+
+abbrev pub query_verdict : Query → Catalog → Verdict
+query_verdict q c = passes_or (query_cause q c)
