@@ -1,4 +1,4 @@
-//! The verdict of a write over the whole language.
+//! The verdict of a write over the whole language, and of a row query with its plan.
 //!
 //! [`bind_write`] says what a write meets in a catalog, at a retention edge and a moment: accepted, as an entry of the history
 //! with its count of rows, or refused with the first cause that applies. It promises that this is the verdict of the
@@ -11,11 +11,13 @@
 #![tactic(auto)]
 
 mod columns;
+mod fields;
 mod found;
 mod groups;
 mod insert;
 mod make;
 mod names;
+mod query;
 mod remove;
 mod seen;
 mod slots;
@@ -23,8 +25,10 @@ mod subtables;
 mod values;
 mod write;
 
+pub use fields::{comparisons, header, shown_places};
 pub use insert::bind_insert;
 pub use make::{bind_make_stable, bind_make_table};
+pub use query::bind_query;
 pub use remove::{bind_delete, bind_drop_stream, bind_trim};
 pub use subtables::bind_make_sub;
 pub use write::{bind_write, is_write};

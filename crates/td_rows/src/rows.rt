@@ -31,7 +31,13 @@ pub trait RowMap: Drop {
     fn keep_from(&mut self, ts: u64)
         ensures { rows self.new ≡ filter (λ e. nat_le ts e.0.ts) (rows self.old) };
 
-    /// Copies of the rows of a table from one timestamp to another, both included, by timestamp.
-    fn rows_of(&self, alloc: Global, table: u32, lo: u64, hi: u64) -> Result<Seq<(u64, Row)>, NoMem>
+    /// Copies of the rows of a table from one timestamp on, to another where there is one, both included, by timestamp.
+    fn rows_of(
+        &self,
+        alloc: Global,
+        table: u32,
+        lo: u64,
+        hi: Option<u64>,
+    ) -> Result<Seq<(u64, Row)>, NoMem>
         ensures { IfOk result (λ all. all ≡ range_of table lo hi (rows self.now)) };
 }
