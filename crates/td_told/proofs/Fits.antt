@@ -1,8 +1,8 @@
 -- Which verdicts a statement may have.
-use Rattle.std.proofs.Common.{◌≡◌, ℕ, ℤ, pos, negsuc, ◌&&◌, true, false, cond, List, [], ◌∷◌, Option, Some, None, refl, ap}
-use lib.Chars.{codes}
-use Rattle.td_cols.specs.declared.kinds.Kind.TheVariants.{I32, Time}
-use Rattle.td_cols.specs.Kinds.{is_in_range}
+use Rattle.std.proofs.Common.{◌≡◌, ℕ, ℤ, pos, true, false, cond, List, [], ◌∷◌, length, map, Option, Some, None, refl, ap}
+use Rattle.std.specs.Prelude.{int_lt}
+use Rattle.std.specs.Int.{int_min, int_max}
+use Rattle.td_model.specs.declared.catalog.Column.{Column}
 use Rattle.td_model.specs.declared.language.Lit.{Lit}
 use Rattle.td_model.specs.declared.language.Stmt.{Stmt}
 use Rattle.td_model.specs.declared.language.Stmt.TheVariants as stmt
@@ -10,12 +10,15 @@ use Rattle.td_model.specs.declared.history.What.{What}
 use Rattle.td_model.specs.declared.history.What.TheVariants as what
 use Rattle.td_model.specs.declared.history.Verdict.{Verdict}
 use Rattle.td_model.specs.declared.history.Verdict.TheVariants.{Accept, Pass, Refuse}
-use Rattle.td_model.specs.declared.report.Cause.TheVariants.{OutOfRange}
+use Rattle.td_model.specs.declared.report.Cause.{Cause}
+use Rattle.td_model.specs.Catalog.{Catalog, table_named}
 use Rattle.td_model.specs.State.{State}
-use Rattle.td_model.specs.Catalog.{table_named}
-use Rattle.td_told.specs.declared.forms.Form.{Form}
-use Rattle.td_told.specs.declared.forms.Form.TheVariants as form
-use Rattle.td_told.specs.Verdict.{table_name, is_table_name, are_table_columns, selects_all, is_whole, is_plain, is_zero, is_none, one_put, put_of, make_verdict, insert_verdict, select_verdict, number_of, two_of, insert_group, insert_rows, insert_form, built_verdict, verdict, reads_clock}
+use Rattle.td_verdict.specs.Causes.{first_cause, accepted_or}
+use Rattle.td_verdict.specs.Names.{number_or_none, table_schema}
+use Rattle.td_verdict.specs.Queries.{query_cause, passes_or}
+use Rattle.td_verdict.specs.Writes as writes
+use Rattle.td_verdict.specs.Writes.{refused_or, cut_between, time_from}
+use Rattle.td_told.specs.Verdict.{verdict, reads_clock}
 use Rattle.td_told.specs.Told.{is_definition, is_insert, is_trim, is_query}
 use Rattle.td_told.specs.Turn.{clock_reads}
 
@@ -30,99 +33,50 @@ Fits q (Accept w rows) = Suits q w × (reads_clock q ≡ true)
 Fits q Pass = is_query q ≡ true
 Fits q (Refuse cause) = Unit {0}
 
--- an INSERT's form
-abbrev IsInsertForm : Option Form → Type 0
-IsInsertForm None = Unit {0}
-IsInsertForm (Some form.MakeTable) = ⊥
-IsInsertForm (Some (form.Insert ts v)) = Unit {0}
-IsInsertForm (Some form.Select) = ⊥
+-- what is accepted where no cause applies
+accepted_fits : (q : Stmt) (why : Option Cause) (w : What) (rows : ℕ) → Suits q w → reads_clock q ≡ true → Fits q (accepted_or why w rows)
+accepted_fits q None w rows suits reads = (suits, reads)
+accepted_fits q (Some cause) w rows suits reads = tt
 
-two_insert : (ts v : Option ℤ) → IsInsertForm (two_of ts v)
-two_insert None v = tt
-two_insert (Some ts) None = tt
-two_insert (Some ts) (Some v) = tt
+refused_fits : (q : Stmt) (why : Option Cause) (v : Verdict) → Fits q v → Fits q (refused_or why v)
+refused_fits q None v fits = fits
+refused_fits q (Some cause) v fits = tt
 
-group_insert : (group : List Lit) → IsInsertForm (insert_group group)
-group_insert [] = tt
-group_insert (a ∷ []) = tt
-group_insert (a ∷ b ∷ []) = two_insert (number_of a) (number_of b)
-group_insert (a ∷ b ∷ c ∷ more) = tt
+passes_fit : (q : Stmt) (why : Option Cause) → is_query q ≡ true → Fits q (passes_or why)
+passes_fit q None is = is
+passes_fit q (Some cause) is = tt
 
-rows_insert : (rows : List (List Lit)) → IsInsertForm (insert_rows rows)
-rows_insert [] = tt
-rows_insert (g ∷ []) = group_insert g
-rows_insert (g ∷ h ∷ more) = tt
+cut_suits : (q : Stmt) (table : ℕ) (lo hi : ℤ) → is_definition q ≡ true → Suits q (cut_between table lo hi)
+cut_suits q table lo hi is = elim (int_lt hi lo) as (λ b. Suits q (cond b (what.Cut table 1 0) (what.Cut table (time_from lo) (time_from hi)))) [ true ↦ is | false ↦ is ]
 
-insert_insert : (name : List ℕ) (columns : Option (List (List ℕ))) (rows : List (List Lit)) → IsInsertForm (insert_form name columns rows)
-insert_insert name None rows = elim (is_table_name name) as (λ b. IsInsertForm (cond b (insert_rows rows) None)) [ true ↦ rows_insert rows | false ↦ tt ]
-insert_insert name (Some columns) rows = tt
+stable_fits : (q : Stmt) (name : List ℕ) (columns : List Column) (tags : Option (List Column)) (s : State) → is_definition q ≡ true → reads_clock q ≡ true → Fits q (writes.make_stable_verdict name columns tags s.catalog)
+stable_fits q name columns None s is reads = tt
+stable_fits q name columns (Some tags) s is reads = accepted_fits q _ _ 0 is reads
 
--- an INSERT accepts puts, and nothing else
-abbrev IsPut : Verdict → Type 0
-IsPut (Accept (what.Put puts) rows) = Unit {0}
-IsPut (Accept w rows) = ⊥
-IsPut Pass = ⊥
-IsPut (Refuse cause) = Unit {0}
+groups_fit : (q : Stmt) (table : ℕ) (columns places : List Column) (groups : List (List Lit)) (edge m : ℕ) → is_insert q ≡ true → reads_clock q ≡ true → Fits q (writes.groups_verdict table columns places groups edge m)
+groups_fit q table columns places groups edge m is reads = accepted_fits q (writes.groups_cause columns places groups edge m) (what.Put (map (writes.put_of table columns places m) groups)) (length groups) is reads
 
-abbrev put_verdict : ℕ → ℕ → ℤ → Verdict
-put_verdict table ts v = Accept (what.Put (one_put table ts v ∷ [])) 1
+insert_fits : (q : Stmt) (table : List ℕ) (columns : List Column) (names : Option (List (List ℕ))) (groups : List (List Lit)) (edge m : ℕ) (c : Catalog) → is_insert q ≡ true → reads_clock q ≡ true → Fits q (writes.insert_in table columns names groups edge m c)
+insert_fits q table columns names groups edge m c is reads =
+    let n = number_or_none (table_named table c) in
+    refused_fits q (first_cause (writes.written_cause table c ∷ writes.list_cause columns names ∷ [])) (writes.groups_verdict n columns (writes.chosen columns names) groups edge m) (groups_fit q n columns (writes.chosen columns names) groups edge m is reads)
 
-put_is : (table : ℕ) (ts v : ℤ) → IsPut (put_of table ts v)
-put_is table (negsuc n) v = tt
-put_is table (pos ts) v = elim (is_in_range Time (pos ts)) as (λ a. IsPut (cond a (cond (is_in_range I32 v) (put_verdict table ts v) (Refuse (OutOfRange (codes "v")))) (Refuse (OutOfRange (codes "ts"))))) [
-  | true ↦ elim (is_in_range I32 v) as (λ b. IsPut (cond b (put_verdict table ts v) (Refuse (OutOfRange (codes "v"))))) [ true ↦ tt | false ↦ tt ]
-  | false ↦ tt
-]
-
-insert_is : (o : Option ℕ) (ts v : ℤ) → IsPut (insert_verdict o ts v)
-insert_is None ts v = tt
-insert_is (Some table) ts v = put_is table ts v
-
-built_insert : (o : Option Form) (s : State) (m : ℕ) → IsInsertForm o → IsPut (built_verdict o s m)
-built_insert None s m i = tt
-built_insert (Some form.MakeTable) s m i = absurd i
-built_insert (Some (form.Insert ts v)) s m i = insert_is (table_named table_name s.catalog) ts v
-built_insert (Some form.Select) s m i = absurd i
-
-put_fits : (q : Stmt) (v : Verdict) → is_insert q ≡ true → reads_clock q ≡ true → IsPut v → Fits q v
-put_fits q (Accept (what.Put puts) rows) i r p = (i, r)
-put_fits q (Accept (what.MakeTable name columns) rows) i r p = absurd p
-put_fits q (Accept (what.MakeStable name schema) rows) i r p = absurd p
-put_fits q (Accept (what.MakeSub name stable tags) rows) i r p = absurd p
-put_fits q (Accept (what.Cut table lo hi) rows) i r p = absurd p
-put_fits q (Accept (what.MakeStream def) rows) i r p = absurd p
-put_fits q (Accept (what.DropStream k) rows) i r p = absurd p
-put_fits q (Accept (what.Edge edge) rows) i r p = absurd p
-put_fits q (Accept (what.Step stream upto moment) rows) i r p = absurd p
-put_fits q (Accept what.Halt rows) i r p = absurd p
-put_fits q Pass i r p = absurd p
-put_fits q (Refuse cause) i r p = tt
-
-make_fits : (q : Stmt) (o : Option ℕ) → is_definition q ≡ true → reads_clock q ≡ true → Fits q (make_verdict o)
-make_fits q None d r = (d, r)
-make_fits q (Some n) d r = tt
-
-select_fits : (q : Stmt) (o : Option ℕ) → is_query q ≡ true → Fits q (select_verdict o)
-select_fits q None d = tt
-select_fits q (Some n) d = d
+delete_fits : (q : Stmt) (table : List ℕ) (columns : List Column) (column : List ℕ) (lo hi : Lit) (m : ℕ) (c : Catalog) → is_definition q ≡ true → reads_clock q ≡ true → Fits q (writes.delete_in table columns column lo hi m c)
+delete_fits q table columns column lo hi m c is reads =
+    let n = number_or_none (table_named table c) in
+    accepted_fits q (writes.delete_cause table columns column lo hi m c) (writes.cut_of n (writes.bound_of m lo) (writes.bound_of m hi)) 0 (cut_suits q n (int_max (writes.bound_of m lo) (pos 0)) (int_min (writes.bound_of m hi) (pos writes.last_time)) is) reads
 
 pub fits : (q : Stmt) (s : State) (m : ℕ) → Fits q (verdict q s m)
 fits (stmt.Wrong cause) s m = tt
-fits (stmt.MakeTable name columns) s m = elim (is_table_name name && are_table_columns columns) as (λ b. Fits (stmt.MakeTable name columns) (built_verdict (cond b (Some form.MakeTable) None) s m)) [
-  | true ↦ make_fits (stmt.MakeTable name columns) (table_named table_name s.catalog) refl refl
-  | false ↦ tt
-]
-fits (stmt.Insert table columns rows) s m = put_fits (stmt.Insert table columns rows) _ refl refl (built_insert (insert_form table columns rows) s m (insert_insert table columns rows))
-fits (stmt.Select q) s m = elim (selects_all q && is_whole q.window && is_plain q.order && (is_zero q.skip && is_none q.limit)) as (λ b. Fits (stmt.Select q) (built_verdict (cond b (Some form.Select) None) s m)) [
-  | true ↦ select_fits (stmt.Select q) (table_named table_name s.catalog) refl
-  | false ↦ tt
-]
-fits (stmt.MakeStable name columns tags) s m = tt
-fits (stmt.MakeSub name stable tags) s m = tt
-fits (stmt.Delete table column lo hi) s m = tt
+fits (stmt.MakeStable name columns tags) s m = stable_fits (stmt.MakeStable name columns tags) name columns tags s refl refl
+fits (stmt.MakeTable name columns) s m = accepted_fits (stmt.MakeTable name columns) _ _ 0 refl refl
+fits (stmt.MakeSub name stable tags) s m = accepted_fits (stmt.MakeSub name stable tags) _ _ 0 refl refl
+fits (stmt.Insert table columns rows) s m = insert_fits (stmt.Insert table columns rows) table (table_schema (table_named table s.catalog) s.catalog).columns columns rows s.edge m s.catalog refl refl
+fits (stmt.Delete table column lo hi) s m = delete_fits (stmt.Delete table column lo hi) table (table_schema (table_named table s.catalog) s.catalog).columns column lo hi m s.catalog refl refl
 fits (stmt.MakeStream def) s m = tt
-fits (stmt.DropStream name) s m = tt
-fits stmt.Trim s m = tt
+fits (stmt.DropStream name) s m = accepted_fits (stmt.DropStream name) _ _ 0 refl refl
+fits stmt.Trim s m = (refl, refl)
+fits (stmt.Select q) s m = passes_fit (stmt.Select q) (query_cause q s.catalog) refl
 fits (stmt.OpenCursor cursor query) s m = tt
 fits (stmt.Fetch cursor rows) s m = tt
 fits (stmt.CloseCursor cursor) s m = tt

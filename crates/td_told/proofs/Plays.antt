@@ -18,16 +18,16 @@ MayBe P s c m = (s.moment ≤ m) × (m ≤ 253402300799999) × P c m
 -- From s and a count of readings, these statements have these replies and lines, and lead to t.
 abbrev pub Plays : (ℕ → ℕ → Type 0) → ℕ → State → List Asked → List (ℕ × ℕ × Reply) → List JournalLine → State → Type 0
 Plays P c s [] [] js t = (js ≡ []) × (t ≡ s)
-Plays P c s (a ∷ qs) (r ∷ rs) js t = (m : ℕ) × MayBe P s (c + clock_reads a.stmt) m × (v : Option Verdict) × Judged v (verdict a.stmt s m) × (r ≡ reply_line_at a.session a.ordinal (reply_of v s)) × (rest : List JournalLine) × (js ≡ as_list (line_then v s a.session a.ordinal m) ++ rest) × Plays P (c + clock_reads a.stmt) (state_then v s a.session a.ordinal m) qs rs rest t
+Plays P c s (a ∷ qs) (r ∷ rs) js t = (m : ℕ) × MayBe P s (c + clock_reads a.stmt) m × (v : Option Verdict) × Judged v (verdict a.stmt s m) × (r ≡ reply_line_at a.session a.ordinal (reply_of a.stmt v s)) × (rest : List JournalLine) × (js ≡ as_list (line_then v s a.session a.ordinal m) ++ rest) × Plays P (c + clock_reads a.stmt) (state_then v s a.session a.ordinal m) qs rs rest t
 Plays P c s [] (r ∷ rs) js t = ⊥
 Plays P c s (a ∷ qs) [] js t = ⊥
 
 -- one turn alone
-one_turn : (P : ℕ → ℕ → Type 0) (c m : ℕ) (s : State) (a : Asked) (v : Option Verdict) → Judged v (verdict a.stmt s m) → MayBe P s (c + clock_reads a.stmt) m → Plays P c s (a ∷ []) (reply_line_at a.session a.ordinal (reply_of v s) ∷ []) (as_list (line_then v s a.session a.ordinal m)) (state_then v s a.session a.ordinal m)
+one_turn : (P : ℕ → ℕ → Type 0) (c m : ℕ) (s : State) (a : Asked) (v : Option Verdict) → Judged v (verdict a.stmt s m) → MayBe P s (c + clock_reads a.stmt) m → Plays P c s (a ∷ []) (reply_line_at a.session a.ordinal (reply_of a.stmt v s) ∷ []) (as_list (line_then v s a.session a.ordinal m)) (state_then v s a.session a.ordinal m)
 one_turn P c m s a v j ok = (m, ok, v, j, refl, [], sym (append-nil _), (refl, refl))
 
 -- one more turn at the end
-pub plays_more : (P : ℕ → ℕ → Type 0) (c : ℕ) (s : State) (qs : List Asked) (rs : List (ℕ × ℕ × Reply)) (js : List JournalLine) (t : State) (a : Asked) (v : Option Verdict) (d m : ℕ) → Plays P c s qs rs js t → Judged v (verdict a.stmt t m) → d ≡ c + reads qs → MayBe P t (d + clock_reads a.stmt) m → Plays P c s (qs ++ a ∷ []) (rs ++ reply_line_at a.session a.ordinal (reply_of v t) ∷ []) (js ++ as_list (line_then v t a.session a.ordinal m)) (state_then v t a.session a.ordinal m)
+pub plays_more : (P : ℕ → ℕ → Type 0) (c : ℕ) (s : State) (qs : List Asked) (rs : List (ℕ × ℕ × Reply)) (js : List JournalLine) (t : State) (a : Asked) (v : Option Verdict) (d m : ℕ) → Plays P c s qs rs js t → Judged v (verdict a.stmt t m) → d ≡ c + reads qs → MayBe P t (d + clock_reads a.stmt) m → Plays P c s (qs ++ a ∷ []) (rs ++ reply_line_at a.session a.ordinal (reply_of a.stmt v t) ∷ []) (js ++ as_list (line_then v t a.session a.ordinal m)) (state_then v t a.session a.ordinal m)
 plays_more P c s [] [] js t a v d m h j f ok =
     let count : d ≡ c = omega arith in
     let may : MayBe P s (c + clock_reads a.stmt) m = subst (λ (x : State). MayBe P x (c + clock_reads a.stmt) m) h.1 (subst (λ n. MayBe P t (n + clock_reads a.stmt) m) count ok) in
@@ -63,7 +63,7 @@ pub record TurnLeft (P : ℕ → ℕ → Type 0) (script : List Asked) (m : ℕ)
 
 -- the next statement after those of a script
 module _ (P : ℕ → ℕ → Type 0) (script : List Asked) (m : ℕ) (a : Asked) (b t t' : State) (rs rs' : List (ℕ × ℕ × Reply)) (js js' : List JournalLine) (line : Option JournalLine) (r : Reply) (h : Plays P 0 b script rs js t) (ok : MayBe P t (reads script + clock_reads a.stmt) m) (replies : rs' ≡ rs ++ reply_line_at a.session a.ordinal r ∷ []) (journal : js' ≡ js ++ as_list line) where
-  by_verdict : (v : Option Verdict) → Judged v (verdict a.stmt t m) → TurnIs v t t' a.session a.ordinal m r line → TurnLeft P (script ++ a ∷ []) m b t' rs' js' t.version
+  by_verdict : (v : Option Verdict) → Judged v (verdict a.stmt t m) → TurnIs a.stmt v t t' a.session a.ordinal m r line → TurnLeft P (script ++ a ∷ []) m b t' rs' js' t.version
   by_verdict v judged turn =
       let more = plays_more P 0 b script rs js t a v (reads script) m h judged (omega arith) ok in
       record {
@@ -72,7 +72,7 @@ module _ (P : ℕ → ℕ → Type 0) (script : List Asked) (m : ℕ) (a : Asked
         counted = rw turn.state (version_then v t a.session a.ordinal m);
       }
 
-  pub plays_next : TurnAnswers (verdict a.stmt t m) t t' a.session a.ordinal m r line → TurnLeft P (script ++ a ∷ []) m b t' rs' js' t.version
+  pub plays_next : TurnAnswers a.stmt t t' a.session a.ordinal m r line → TurnLeft P (script ++ a ∷ []) m b t' rs' js' t.version
   plays_next turn = elim turn [
     | inl told ↦ by_verdict (Some (verdict a.stmt t m)) refl told
     | inr starved ↦ by_verdict None tt starved

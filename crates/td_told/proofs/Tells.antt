@@ -13,7 +13,7 @@ use Rattle.td_model.specs.State.{State, step, newest, trail, after, at}
 use Rattle.td_model.proofs.Steps.{step_version}
 use Rattle.td_told.specs.Asked.{Asked, count_of, Counted}
 use Rattle.td_told.specs.Times.{Timed}
-use Rattle.td_told.specs.Verdict.{verdict, answer}
+use Rattle.td_told.specs.Verdict.{verdict, answer, header}
 use Rattle.td_told.specs.Told.{IsHistory, Entered, JudgedAt, IsPrefix, Answers, EachAnswered, entry_of, InOrder, NumberIs, front_after, listed, accepted, with_version, version_of, ToldInOrder}
 use Rattle.td_told.specs.Turn.{clock_reads, reply_of, accepted_reply, state_then, line_then, as_list, reply_line_at, line_at, entry_at, Judged}
 use Rattle.td_told.proofs.Plays.{Plays, MayBe}
@@ -103,13 +103,13 @@ Outcome P b front qs h0 j0 s older c rs js = (h : List Entry) × IsHistory (s �
 
 module _ (P : ℕ → ℕ → Type 0) (b s : State) (older : List State) (front qs : List Asked) (a : Asked) (h0 : List Entry) (j0 : List JournalLine) (c m : ℕ) (r : (ℕ × ℕ × Reply)) (rs : List (ℕ × ℕ × Reply)) (js rest : List JournalLine) (begins : Begins b s older h0 j0) where
   -- a turn without an entry
-  kept : (v : Option Verdict) → r ≡ reply_line_at a.session a.ordinal (reply_of v s) → js ≡ rest → ((h : List Entry) → Answers b (h0 ++ h) (j0 ++ rest) a (reply_of v s)) → Outcome P b (front ++ a ∷ []) qs h0 j0 s older (c + clock_reads a.stmt) rs rest → Outcome P b front (a ∷ qs) h0 j0 s older c (r ∷ rs) js
+  kept : (v : Option Verdict) → r ≡ reply_line_at a.session a.ordinal (reply_of a.stmt v s) → js ≡ rest → ((h : List Entry) → Answers b (h0 ++ h) (j0 ++ rest) a (reply_of a.stmt v s)) → Outcome P b (front ++ a ∷ []) qs h0 j0 s older (c + clock_reads a.stmt) rs rest → Outcome P b front (a ∷ qs) h0 j0 s older c (r ∷ rs) js
   kept v reply lines answers later =
-      let told : Outcome P b front (a ∷ qs) h0 j0 s older c (reply_line_at a.session a.ordinal (reply_of v s) ∷ rs) rest = (later.0, subst (λ x. IsHistory (s ∷ older) x rest later.0) (append_assoc front (a ∷ []) qs) later.1, moments_later P (c + 1) (c + clock_reads a.stmt + 1) later.0 (omega arith) later.2, (refl, refl, answers later.0, later.3)) in
+      let told : Outcome P b front (a ∷ qs) h0 j0 s older c (reply_line_at a.session a.ordinal (reply_of a.stmt v s) ∷ rs) rest = (later.0, subst (λ x. IsHistory (s ∷ older) x rest later.0) (append_assoc front (a ∷ []) qs) later.1, moments_later P (c + 1) (c + clock_reads a.stmt + 1) later.0 (omega arith) later.2, (refl, refl, answers later.0, later.3)) in
       subst (λ y. Outcome P b front (a ∷ qs) h0 j0 s older c (r ∷ rs) y) (sym lines) (subst (λ x. Outcome P b front (a ∷ qs) h0 j0 s older c (x ∷ rs) rest) (sym reply) told)
 
   -- a turn with an entry
-  entered : (w : What) (rows : ℕ) → a.ordinal ≡ count_of a.session front + 1 → Unseen front → verdict a.stmt s m ≡ Accept w rows → MayBe P s (c + clock_reads a.stmt) m → r ≡ reply_line_at a.session a.ordinal (reply_of (Some (Accept w rows)) s) → js ≡ line_at (s.version + 1) a.session a.ordinal m ∷ rest
+  entered : (w : What) (rows : ℕ) → a.ordinal ≡ count_of a.session front + 1 → Unseen front → verdict a.stmt s m ≡ Accept w rows → MayBe P s (c + clock_reads a.stmt) m → r ≡ reply_line_at a.session a.ordinal (reply_of a.stmt (Some (Accept w rows)) s) → js ≡ line_at (s.version + 1) a.session a.ordinal m ∷ rest
       → Outcome P b (front ++ a ∷ []) qs (h0 ++ entry_at a.session a.ordinal m w ∷ []) (j0 ++ line_at (s.version + 1) a.session a.ordinal m ∷ []) (step s (entry_at a.session a.ordinal m w)) (s ∷ older) (c + clock_reads a.stmt) rs rest → Outcome P b front (a ∷ qs) h0 j0 s older c (r ∷ rs) js
   entered w rows counts unseen e ok reply lines later =
       let h = later.0 in
@@ -122,7 +122,7 @@ module _ (P : ℕ → ℕ → Type 0) (b s : State) (older : List State) (front 
       let fit : Fits a.stmt (Accept w rows) = subst (Fits a.stmt) e (fits a.stmt s m) in
       let one : c + clock_reads a.stmt ≡ c + 1 = omega (arith, reads_one a.stmt w rows fit) in
       let answers = accepted_here b s older h0 j0 begins a w rows (h0 ++ entry ∷ h) (j0 ++ line ∷ rest) fit.0 (entered_here b s older h0 j0 begins a w rows m (entry ∷ h) rest e) in
-      let told : Outcome P b front (a ∷ qs) h0 j0 s older c (reply_line_at a.session a.ordinal (reply_of (Some (Accept w rows)) s) ∷ rs) (line ∷ rest) =
+      let told : Outcome P b front (a ∷ qs) h0 j0 s older c (reply_line_at a.session a.ordinal (reply_of a.stmt (Some (Accept w rows)) s) ∷ rs) (line ∷ rest) =
       (entry ∷ h, (refl, refl, ok.0, named, history), moments_more P (c + 1) entry h (subst (λ x. P x m) one ok.2) (subst (λ x. Moments P (x + 1) h) one later.2), (refl, refl, answers, each')) in
       subst (λ y. Outcome P b front (a ∷ qs) h0 j0 s older c (r ∷ rs) y) (sym lines) (subst (λ x. Outcome P b front (a ∷ qs) h0 j0 s older c (x ∷ rs) (line ∷ rest)) (sym reply) told)
 
@@ -169,11 +169,11 @@ module _ (P : ℕ → ℕ → Type 0) (b : State) where
   told_from front (a ∷ qs) h0 j0 s t older c (r ∷ rs) js begins unseen counted p =
       let m = p.0 in
       let seen = unseen_more front a counted.0 unseen in
-      elim p.2 as (λ v. Judged v (verdict a.stmt s m) → r ≡ reply_line_at a.session a.ordinal (reply_of v s) → js ≡ as_list (line_then v s a.session a.ordinal m) ++ p.5 → Plays P (c + clock_reads a.stmt) (state_then v s a.session a.ordinal m) qs rs p.5 t → Outcome P b front (a ∷ qs) h0 j0 s older c (r ∷ rs) js) [
+      elim p.2 as (λ v. Judged v (verdict a.stmt s m) → r ≡ reply_line_at a.session a.ordinal (reply_of a.stmt v s) → js ≡ as_list (line_then v s a.session a.ordinal m) ++ p.5 → Plays P (c + clock_reads a.stmt) (state_then v s a.session a.ordinal m) qs rs p.5 t → Outcome P b front (a ∷ qs) h0 j0 s older c (r ∷ rs) js) [
         | Some (Accept w rows) ↦ λ e reply lines rest. entered P b s older front qs a h0 j0 c m r rs js p.5 begins w rows counted.0 unseen (sym e) p.1 reply lines
             (told_from (front ++ a ∷ []) qs (h0 ++ entry_at a.session a.ordinal m w ∷ []) (j0 ++ line_at (s.version + 1) a.session a.ordinal m ∷ []) (step s (entry_at a.session a.ordinal m w)) t (s ∷ older) (c + clock_reads a.stmt) rs p.5 (begins_next b s older h0 j0 begins a.session a.ordinal m w) seen counted.1 rest)
         | Some Pass ↦ λ e reply lines rest. kept P b s older front qs a h0 j0 c m r rs js p.5 begins (Some Pass) reply lines
-            (λ h. (subst (Fits a.stmt) (sym e) (fits a.stmt s m), judged_here b s older h0 j0 begins a.stmt Pass m h p.5 p.1.0 p.1.1 (sym e), refl, ap answer (sym (at_here b s older h0 j0 begins h))))
+            (λ h. (subst (Fits a.stmt) (sym e) (fits a.stmt s m), judged_here b s older h0 j0 begins a.stmt Pass m h p.5 p.1.0 p.1.1 (sym e), ap (header a.stmt) (sym (at_here b s older h0 j0 begins h)), ap (answer a.stmt) (sym (at_here b s older h0 j0 begins h))))
             (told_from (front ++ a ∷ []) qs h0 j0 s t older (c + clock_reads a.stmt) rs p.5 begins seen counted.1 rest)
         | Some (Refuse cause) ↦ λ e reply lines rest. kept P b s older front qs a h0 j0 c m r rs js p.5 begins (Some (Refuse cause)) reply lines
             (λ h. judged_here b s older h0 j0 begins a.stmt (Refuse cause) m h p.5 p.1.0 p.1.1 (sym e))
@@ -190,7 +190,7 @@ module _ (P : ℕ → ℕ → Type 0) (b : State) where
   in_order_from before (a ∷ qs) s t c [] js counted p = absurd p
   in_order_from before (a ∷ qs) s t c (r ∷ rs) js counted p =
       let m = p.0 in
-      elim p.2 as (λ v. r ≡ reply_line_at a.session a.ordinal (reply_of v s) → js ≡ as_list (line_then v s a.session a.ordinal m) ++ p.5 → Plays P (c + clock_reads a.stmt) (state_then v s a.session a.ordinal m) qs rs p.5 t → InRun s.version before (a ∷ qs) (r ∷ rs) js) [
+      elim p.2 as (λ v. r ≡ reply_line_at a.session a.ordinal (reply_of a.stmt v s) → js ≡ as_list (line_then v s a.session a.ordinal m) ++ p.5 → Plays P (c + clock_reads a.stmt) (state_then v s a.session a.ordinal m) qs rs p.5 t → InRun s.version before (a ∷ qs) (r ∷ rs) js) [
         | Some (Accept w rows) ↦ λ reply lines rest. let later = in_order_from (before ++ a ∷ []) qs _ t (c + clock_reads a.stmt) rs p.5 counted.1 rest in
             rw (reply, lines) (one_more w s.version before qs a m rows rs p.5 counted.0 (subst (λ f. InRun f (before ++ a ∷ []) qs rs p.5) (step_version s (entry_at a.session a.ordinal m w)) later))
         | Some Pass ↦ λ reply lines rest. let later = in_order_from (before ++ a ∷ []) qs _ t (c + clock_reads a.stmt) rs p.5 counted.1 rest in

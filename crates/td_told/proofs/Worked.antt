@@ -7,7 +7,7 @@
 --     1: CREATE TABLE t (ts TIMESTAMP, v INT)       refused at 2: the name is taken
 --     ----
 --     2: SELECT * FROM t                            answered at 2: one row, 5 and 7
---     2: TRIM                                       refused at 2: not built
+--     2: COMMIT                                     refused at 2: not built
 use Rattle.std.specs.Prelude.{◌≡◌, ℕ, ℤ, pos, negsuc, true, List, [], ◌∷◌, Some, None, refl}
 use Rattle.std.proofs.Common.{arith, inl, inr, subst, cond, false, ◌==◌}
 use lib.Chars.{codes}
@@ -62,15 +62,15 @@ select_before = refl
 pub no_statement : verdict (stmt.Wrong (Syntax 22)) empty_state 0 ≡ Refuse (Syntax 22)
 no_statement = refl
 
-pub another_table : verdict (stmt.MakeTable (codes "u") (record { name = codes "ts"; kind = Time } ∷ record { name = codes "v"; kind = I32 } ∷ [])) empty_state 0 ≡ Refuse OptionNotBuilt
-another_table = refl
+pub not_built : verdict stmt.Commit empty_state 0 ≡ Refuse OptionNotBuilt
+not_built = refl
 
 pub no_timestamp : verdict (insert (negsuc 0) (pos 7)) (after empty_state (made ∷ [])) 0 ≡ Refuse (OutOfRange (codes "ts"))
 unfolding is_in_range kind_least kind_most
 no_timestamp = refl
 
 -- a timestamp that comes again updates its row, and rows come in the order of their timestamps
-pub updated : answer (after empty_state (made ∷ put_seven ∷ put_at 5 (pos 8) 2000000000001 ∷ put_at 3 (negsuc 0) 2000000000002 ∷ [])) ≡ (Num (pos 3) ∷ Num (negsuc 0) ∷ []) ∷ (Num (pos 5) ∷ Num (pos 8) ∷ []) ∷ []
+pub updated : answer select_all (after empty_state (made ∷ put_seven ∷ put_at 5 (pos 8) 2000000000001 ∷ put_at 3 (negsuc 0) 2000000000002 ∷ [])) ≡ (Num (pos 3) ∷ Num (negsuc 0) ∷ []) ∷ (Num (pos 5) ∷ Num (pos 8) ∷ []) ∷ []
 updated = refl
 
 -- the row that was updated keeps its birth, and the greatest timestamp never falls
@@ -85,7 +85,7 @@ abbrev asked : ℕ → ℕ → ℕ → Stmt → Asked
 asked phase session ordinal q = record { phase = phase; session = session; ordinal = ordinal; stmt = q }
 
 abbrev script : List Asked
-script = asked 1 1 1 select_all ∷ asked 1 1 2 make ∷ asked 1 1 3 (insert (pos 5) (pos 2147483648)) ∷ asked 1 2 1 (insert (pos 5) (pos 7)) ∷ asked 1 1 4 make ∷ asked 2 2 2 select_all ∷ asked 2 2 3 stmt.Trim ∷ []
+script = asked 1 1 1 select_all ∷ asked 1 1 2 make ∷ asked 1 1 3 (insert (pos 5) (pos 2147483648)) ∷ asked 1 2 1 (insert (pos 5) (pos 7)) ∷ asked 1 1 4 make ∷ asked 2 2 2 select_all ∷ asked 2 2 3 stmt.Commit ∷ []
 
 abbrev listed_as : ℕ → ℕ → ℕ → JournalLine
 listed_as version session n = record { version = version; session = session; ordinal = n; moment = 2000000000000; mark = mark.Plain }

@@ -87,7 +87,7 @@ abbrev pub Answers : State → List Entry → List JournalLine → Asked → Rep
 Answers b h journal a (reply.Accepted v) = (is_definition a.stmt ≡ true) × (w : What) × (rows : ℕ) × Entered b h journal a v w rows
 Answers b h journal a (reply.AcceptedRows v rows) = (is_insert a.stmt ≡ true) × (w : What) × Entered b h journal a v w rows
 Answers b h journal a (reply.AcceptedEdge v edge) = (is_trim a.stmt ≡ true) × (rows : ℕ) × Entered b h journal a v (what.Edge edge) rows
-Answers b h journal a (reply.Answer p names rows) = (is_query a.stmt ≡ true) × JudgedAt b h journal a.stmt p Pass × (names ≡ header) × (rows ≡ answer (at b h p))
+Answers b h journal a (reply.Answer p names rows) = (is_query a.stmt ≡ true) × JudgedAt b h journal a.stmt p Pass × (names ≡ header a.stmt (at b h p)) × (rows ≡ answer a.stmt (at b h p))
 Answers b h journal a (reply.Refused p cause) = JudgedAt b h journal a.stmt p (Refuse cause)
 Answers b h journal a reply.NoMemory = Unit {0}
 Answers b h journal a r = ⊥

@@ -12,7 +12,7 @@ use Rattle.td_model.specs.declared.report.Mark.TheVariants as mark
 use Rattle.td_model.specs.declared.report.JournalLine.{JournalLine}
 use Rattle.td_model.specs.State.{State, step}
 use Rattle.td_told.specs.Asked.{Asked}
-use Rattle.td_told.specs.Verdict.{reads_clock, header, answer}
+use Rattle.td_told.specs.Verdict.{reads_clock, verdict, header, answer}
 
 -- how often a statement's turn reads the clock
 abbrev pub clock_reads : Stmt → ℕ
@@ -29,11 +29,11 @@ accepted_reply (what.Edge edge) version rows = reply.AcceptedEdge version edge
 accepted_reply w version rows = reply.Accepted version
 
 -- what a statement is answered; with no verdict there was no memory
-abbrev pub reply_of : Option Verdict → State → Reply
-reply_of (Some (Accept w rows)) s = accepted_reply w (s.version + 1) rows
-reply_of (Some Pass) s = reply.Answer s.version header (answer s)
-reply_of (Some (Refuse cause)) s = reply.Refused s.version cause
-reply_of None s = reply.NoMemory
+abbrev pub reply_of : Stmt → Option Verdict → State → Reply
+reply_of q (Some (Accept w rows)) s = accepted_reply w (s.version + 1) rows
+reply_of q (Some Pass) s = reply.Answer s.version (header q s) (answer q s)
+reply_of q (Some (Refuse cause)) s = reply.Refused s.version cause
+reply_of q None s = reply.NoMemory
 
 abbrev pub entry_at : ℕ → ℕ → ℕ → What → Entry
 entry_at session ordinal moment w = record { session = session; ordinal = ordinal; moment = moment; what = w }
@@ -58,14 +58,14 @@ as_list None = []
 as_list (Some j) = j ∷ []
 
 -- the reply, the line and the state after are those of a verdict, or of none
-pub record TurnIs (v : Option Verdict) (s t : State) (session ordinal moment : ℕ) (r : Reply) (l : Option JournalLine) : Type 0 where
-  pub reply : r ≡ reply_of v s
+pub record TurnIs (q : Stmt) (v : Option Verdict) (s t : State) (session ordinal moment : ℕ) (r : Reply) (l : Option JournalLine) : Type 0 where
+  pub reply : r ≡ reply_of q v s
   pub line : l ≡ line_then v s session ordinal moment
   pub state : t ≡ state_then v s session ordinal moment
 
--- they are those of the verdict, or there was no memory
-abbrev pub TurnAnswers : Verdict → State → State → ℕ → ℕ → ℕ → Reply → Option JournalLine → Type 0
-TurnAnswers v s t session ordinal moment r line = TurnIs (Some v) s t session ordinal moment r line ⊎ TurnIs None s t session ordinal moment r line
+-- they are those of the statement's verdict at the moment, or there was no memory
+abbrev pub TurnAnswers : Stmt → State → State → ℕ → ℕ → ℕ → Reply → Option JournalLine → Type 0
+TurnAnswers q s t session ordinal moment r line = TurnIs q (Some (verdict q s moment)) s t session ordinal moment r line ⊎ TurnIs q None s t session ordinal moment r line
 
 -- a reply with its statement's session and ordinal
 abbrev pub reply_line_at : ℕ → ℕ → Reply → (ℕ × ℕ × Reply)
