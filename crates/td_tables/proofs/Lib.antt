@@ -1,3 +1,4 @@
+pub mod Answered
+pub mod Subtables
+pub mod Steps
 pub mod Turns
-pub mod Places
-pub mod Changes

@@ -1,3 +1,2 @@
-pub mod Laid
-pub mod Change
-pub mod Places
+pub mod Latest
+pub mod Contents
