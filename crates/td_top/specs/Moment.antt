@@ -7,7 +7,7 @@ use Rattle.td_model.specs.State.{State}
 use Rattle.td_outside.specs.Causes.{Reads}
 use Rattle.td_script.specs.declared.lines.Line.{Line}
 use Rattle.td_told.specs.Asked.{Asked}
-use Rattle.td_told.specs.Verdict.{reads_clock, verdict}
+use Rattle.td_told.specs.Verdict.{reads_clock}
 use Rattle.td_told.specs.Turn.{TurnAnswers}
 use Rattle.td_top.specs.Asks.{Asks}
 
@@ -29,4 +29,4 @@ pub record TurnOf (l : Line) (s t : State) (before after : Option (List ℕ)) (f
   pub asked : Asked
   pub asks : Asks l asked
   pub takes : TakesMoment asked.stmt before after floor m
-  pub answers : TurnAnswers (verdict asked.stmt s m) s t asked.session asked.ordinal m r line
+  pub answers : TurnAnswers asked.stmt s t asked.session asked.ordinal m r line

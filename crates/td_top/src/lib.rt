@@ -18,4 +18,6 @@ pub use status::Status;
 pub use top::{play, play_lines, told_of, vnode};
 
 #[cfg(test)]
+mod reports;
+#[cfg(test)]
 mod tests;

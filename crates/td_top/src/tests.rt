@@ -102,6 +102,7 @@ fn rows_in_a_list_give_the_reports_of_rows_by_search(rt: HostRuntime) -> Result<
         "1: CREATE TABLE t (ts TIMESTAMP, v INT)\n1: INSERT INTO t VALUES (7, 1)\n2: INSERT INTO t VALUES (3, 2)\n1: INSERT INTO t VALUES (5, 3)\n3: SELECT * FROM t",
         "1: CREATE TABLE t (ts TIMESTAMP, v INT)\n1: INSERT INTO t VALUES (7, 1)\n1: INSERT INTO t VALUES (9, 2)\n1: INSERT INTO t VALUES (7, 3)\n1: INSERT INTO t VALUES (9, 4)\n----\n1: SELECT * FROM t",
         "1: CREATE TABLE t (ts TIMESTAMP, v INT)\n1: INSERT INTO t VALUES (0, -1)\n1: INSERT INTO t VALUES (253402300799999, 0)\n1: INSERT INTO t VALUES (-1, 0)\n1: SELECT * FROM t\n1: SELECT * FROM u",
+        "1: CREATE STABLE s (ts TIMESTAMP, v INT) TAGS (g INT)\n1: CREATE TABLE a USING s TAGS (1)\n1: CREATE TABLE b USING s TAGS (2)\n1: INSERT INTO b VALUES (5, 1) (3, 2) (5, 3)\n1: INSERT INTO a (ts) VALUES (5) (NOW)\n2: SELECT * FROM s\n2: DELETE FROM b WHERE ts >= 4 AND ts <= 5\n1: SELECT TBNAME, v FROM s WHERE g >= 1 ORDER BY ts DESC\n1: INSERT INTO a VALUES (1000000000, 1)\n1: SELECT * FROM s WHERE ts > 3",
         "1: CREATE TABLE t (ts TIMESTAMP, v INT)\nx",
     ];
     for script in table {
@@ -143,11 +144,11 @@ fn a_text_that_is_refused_names_its_cause(rt: HostRuntime) -> Result<(), Fail> {
             "CREATE STREAM s IGNORE UPDATE 0 INTO o AS SELECT COUNT(*) FROM t INTERVAL(1s)",
             "OptionNotBuilt",
         ),
-        ("CREATE TABLE u (ts TIMESTAMP, v INT)", "OptionNotBuilt"),
-        ("CREATE TABLE t (ts TIMESTAMP, v BIGINT)", "OptionNotBuilt"),
-        ("INSERT INTO t VALUES (NOW, 2)", "OptionNotBuilt"),
-        ("SELECT * FROM t LIMIT 1", "OptionNotBuilt"),
-        ("TRIM", "OptionNotBuilt"),
+        ("CREATE STREAM s INTO o AS SELECT COUNT(*) FROM t INTERVAL(1s)", "OptionNotBuilt"),
+        ("OPEN c AS SELECT * FROM t", "OptionNotBuilt"),
+        ("SELECT COUNT(*) FROM t", "OptionNotBuilt"),
+        ("COMMIT", "OptionNotBuilt"),
+        ("DELETE FROM t WHERE ts >= 1 AND ts <= 2", "UnknownTable"),
     ];
     for (statement, cause) in table {
         let script = format!(in alloc; "64: {}", statement)?;

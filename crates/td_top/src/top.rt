@@ -6,7 +6,7 @@ ghost use Rattle.td_words.specs.Words.{is_dir, dir_of};
 ghost use Rattle.td_top.specs.Asks.{TellsLines};
 ghost use Rattle.td_top.specs.Moment.{TakesMoment, TurnOf};
 ghost use Rattle.td_top.specs.Stream.{TookFew};
-ghost use Rattle.td_top.specs.Status.{Tells, TextTells, TextEnded, outside, Ended, Says, Completes, IsUnlessMemory, writes};
+ghost use Rattle.td_top.specs.Status.{Tells, TextTells, TextEnded, outside, Ended, Says, Completes, writes};
 
 use crate::status::Status;
 use crate::stream::{ReadFault, read_all, write_all};
@@ -49,7 +49,9 @@ fn push_line(journal: &mut Seq<JournalLine>, line: Option<JournalLine>) -> Resul
 
 // The moment of a statement's turn, which isn't before the floor.
 fn moment_of<C: Clock>(stmt: &Stmt, floor: u64, clock: &mut C) -> u64
-    ensures { TakesMoment stmt.now (C.readings clock.old) (C.readings clock.new) floor result }
+    requires { floor ≤ 253402300799999 }
+    ensures most { result ≤ 253402300799999 }
+    ensures takes { TakesMoment stmt.now (C.readings clock.old) (C.readings clock.new) floor result }
 {
     if reads_clock(stmt) {
         clock.now().max(floor)
@@ -66,7 +68,8 @@ fn turn_of<M: RowMap, C: Clock>(
     floor: u64,
     clock: &mut C,
 ) -> Result<(u64, Turn), NoMem>
-    requires { tables.old.version + 1 < 2 ^ 64 }
+    requires version { tables.old.version + 1 < 2 ^ 64 }
+    requires floor { floor ≤ 253402300799999 }
     ensures { IfOk result (λ r. TurnOf line.now tables.old tables.new (C.readings clock.old) (C.readings clock.new) floor r.0 r.1.reply r.1.line) }
 {
     let stmt = statement(alloc, line.text.as_slice())?;
@@ -213,7 +216,7 @@ pub fn play<I: Source, O: Sink, P: Place, C: Clock>(
 }
 
 /// The program: `play DIR` and nothing else, where DIR isn't empty and doesn't begin with `-`. It says what `play` says. With
-/// words that are no command nothing is read, and the status is `Usage`, unless there was no memory to read them.
+/// words that are no command, and only with such, the status is `Usage`, and nothing is read.
 pub fn vnode<R: Threads + Wait + Sync, I: Source, O: Sink, P: Place, C: Clock, G: Gate>(
     _rt: &R,
     alloc: Global,
@@ -224,8 +227,7 @@ pub fn vnode<R: Threads + Wait + Sync, I: Source, O: Sink, P: Place, C: Clock, G
     clock: C,
     _gate: &G,
 ) -> Status
-    ensures usage { result ≡ Status.Usage → dir_of (map string_bytes words.now) ≡ None }
-    ensures no_command { dir_of (map string_bytes words.now) ≡ None → IsUnlessMemory result Status.Usage × (input.new ≡ input.old) }
+    ensures usage { (result ≡ Status.Usage) ↔ (dir_of (map string_bytes words.now) ≡ None) }
     ensures says { IsSome (dir_of (map string_bytes words.now)) → Says (C.readings clock) (outside (I.left input.old) (I.count input.old) (O.written out.old) (O.count out.old)) (outside (I.left input.new) (I.count input.new) (O.written out.new) (O.count out.new)) result }
     ensures complete { IsSome (dir_of (map string_bytes words.now)) → Completes (outside (I.left input.old) (I.count input.old) (O.written out.old) (O.count out.old)) (outside (I.left input.new) (I.count input.new) (O.written out.new) (O.count out.new)) result }
     ensures few { TookFew (I.left input.old) (I.left input.new) }

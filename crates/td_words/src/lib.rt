@@ -2,15 +2,16 @@
 //!
 //! [`read_command`] gives the command of the words, or none: so far `play` and one directory, whose name isn't empty and doesn't
 //! begin with `-`. A word that begins with `-` makes no command. The rest of the words' grammar is told to `clap`, and its
-//! contracts show that the answer is exactly that of the definition, want of memory aside.
+//! contracts show that the answer is exactly that of the definition, want of memory aside, which comes only at words that are
+//! a command.
 //!
 //! The crate stands on `clap`, and on `td_layer` for want of memory.
 #![tactic(auto)]
 
-ghost use Rattle.std.specs.Prelude.{◌≡◌, ◌↔◌, true, IfOk, map, option_map, string_bytes};
+ghost use Rattle.std.specs.Prelude.{◌≡◌, ◌↔◌, true, None, IfOk, IfErr, map, is_some, option_map, string_bytes};
 ghost use Rattle.std.specs.List.{list_any};
 ghost use Rattle.clap.specs.Words.{app_of, subcommand_rows_of, kind_of};
-ghost use Rattle.td_words.specs.Words.{dir_named, dir_of, is_dashed};
+ghost use Rattle.td_words.specs.Words.{dir_named, dir_of, is_dashed, is_dir};
 ghost use Rattle.td_words.specs.Program.{dir_in, program_app};
 
 use clap::builder::ValueParser;
@@ -26,8 +27,43 @@ pub enum Command<'a> {
     Play { dir: &'a str },
 }
 
-/// The command that these words are, or none. Want of memory may come at any words.
+/// The command that these words are, or none. Want of memory comes only at words that are a command.
 pub fn read_command<'a>(alloc: Global, words: &'a [String]) -> Result<Option<Command<'a>>, NoMem>
+    ensures command { IfOk result (λ c. option_map dir_named c ≡ dir_of (map string_bytes words.now)) }
+    ensures starved { IfErr result (λ e. is_some (dir_of (map string_bytes words.now)) ≡ true) }
+{
+    match parsed(alloc, words) {
+        Ok(command) => Ok(command),
+        Err(NoMem) => starved(words),
+    }
+}
+
+// What is answered where there was no memory to parse the words: that they are no command is told by their shape, which takes
+// no memory.
+fn starved<'a>(words: &'a [String]) -> Result<Option<Command<'a>>, NoMem>
+    ensures command { IfOk result (λ c. (c ≡ None) × (dir_of (map string_bytes words.now) ≡ None)) }
+    ensures starved { IfErr result (λ e. is_some (dir_of (map string_bytes words.now)) ≡ true) }
+{
+    match words {
+        [word, dir] if word.as_bytes() == b"play".as_slice() && is_dir(dir.as_bytes()) => Err(
+            NoMem,
+        ),
+        _ => Ok(None),
+    }
+}
+
+// Whether a word can name a directory.
+fn is_dir(dir: &[u8]) -> bool
+    ensures { result ≡ is_dir dir.now }
+{
+    match dir {
+        [] => false,
+        [first, ..] => *first != b'-',
+    }
+}
+
+// The command that these words are by the grammar that is told to `clap`, or none.
+fn parsed<'a>(alloc: Global, words: &'a [String]) -> Result<Option<Command<'a>>, NoMem>
     ensures { IfOk result (λ c. option_map dir_named c ≡ dir_of (map string_bytes words.now)) }
 {
     if has_dashed(words) {

@@ -7,7 +7,7 @@ use Rattle.clap.proofs.WalkLemmas.{list_any-map}
 use Rattle.td_words.specs.Words.{is_dashed}
 use Rattle.td_words.specs.Program.{dir_in, program_app}
 use Rattle.td_words.proofs.Parsing.{read_is, none_or_fine, is_simple_program, is_free_program, dashed_is_none}
-use Rattle.td_words.proofs.read_command.Goals as goal
+use Rattle.td_words.proofs.parsed.Goals as goal
 
 pub returns-then-has_dashed : goal.returns-then-has_dashed
 returns-then-has_dashed c =
