@@ -5,6 +5,10 @@
 //! It stands on `td_model` for the definitions (`State`) and on `td_layer` for the types.
 #![tactic(auto)]
 
+mod lay;
+mod ordered;
+mod puts;
 mod rows;
 
+pub use ordered::OrderedRows;
 pub use rows::RowMap;

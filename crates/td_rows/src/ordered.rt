@@ -1,0 +1,113 @@
+//! Rows that are found by search.
+ghost use Rattle.std.specs.Prelude.{◌≡◌, [], IfOk, OnOk, OnErr, ◌&&◌, ◌==◌, nat_le, not};
+ghost use Rattle.std.specs.Option.{option_copied};
+ghost use Rattle.td_model.specs.State.{is_cut};
+ghost use Rattle.td_rows.specs.Puts.{is_to};
+
+use crate::puts::{Undo, put_all};
+use crate::rows::RowMap;
+use std::alloc::Global;
+use std::collections::BTreeMap;
+use td_layer::{Copied, Key, NoMem, Row, Seq};
+use td_model::Put;
+
+/// Rows in an ordered map: a row is found by search, and so is the first row of a range.
+#[derive(Drop)]
+pub struct OrderedRows {
+    alloc: Global,
+    map: BTreeMap<Key, Row>,
+}
+
+impl OrderedRows {
+    /// No row. It takes no memory.
+    pub fn new(alloc: Global) -> OrderedRows
+        ensures { result.map.entries ≡ [] }
+    {
+        OrderedRows {
+            alloc,
+            map: BTreeMap::new(alloc),
+        }
+    }
+}
+
+impl Undo for OrderedRows {
+    ghost held = { λ m. m.map.entries };
+
+    fn find(&self, key: &Key) -> Option<&Row> {
+        self.map.get(key)
+    }
+
+    fn put(&mut self, key: Key, row: Row) -> Result<Option<Row>, NoMem> {
+        let before = self.map.insert(key, row)?;
+        Ok(before)
+    }
+
+    fn undo(&mut self, key: &Key, before: Option<Row>) {
+        match before {
+            None => {
+                self.map.remove(key);
+            }
+            Some(row) => {
+                if let Some(place) = self.map.get_mut(key) {
+                    *place = row;
+                }
+            }
+        }
+    }
+}
+
+// Whether a timestamp is not beyond an end, where there is one.
+fn is_to(hi: Option<u64>, ts: u64) -> bool
+    ensures { result ≡ is_to hi ts }
+{
+    match hi {
+        None => true,
+        Some(hi) => ts <= hi,
+    }
+}
+
+impl RowMap for OrderedRows {
+    ghost rows = { λ m. m.map.entries };
+
+    fn row(&self, key: &Key) -> Option<&Row> {
+        self.find(key)
+    }
+
+    fn put_all(&mut self, moment: u64, puts: &[Put]) -> Result<(), NoMem> {
+        put_all(self.alloc, self, moment, puts)?;
+        Ok(())
+    }
+
+    fn cut(&mut self, table: u32, lo: u64, hi: u64) {
+        self.map.retain(
+            |key: &Key, row: &mut Row| -> bool
+                ensures { (result ≡ not (is_cut table lo hi key.now)) × (row.new ≡ row.old) }
+            { key.table != table || key.ts < lo || hi < key.ts },
+        );
+    }
+
+    fn keep_from(&mut self, ts: u64) {
+        self.map.retain(
+            |key: &Key, row: &mut Row| -> bool
+                ensures { (result ≡ nat_le ts key.now.ts) × (row.new ≡ row.old) }
+            { ts <= key.ts },
+        );
+    }
+
+    fn rows_of(
+        &self,
+        alloc: Global,
+        table: u32,
+        lo: u64,
+        hi: Option<u64>,
+    ) -> Result<Seq<(u64, Row)>, NoMem> {
+        let mut all = Vec::new(alloc);
+        for (key, row) in self.map.range(Key { table, ts: lo }..) {
+            if key.table != table || !is_to(hi, key.ts) {
+                break;
+            }
+            all.push((key.ts, row.copy()?))?;
+        }
+        Ok(Seq::from_vec(alloc, all))
+    }
+}
