@@ -1,1 +1,4 @@
 pub mod Undone
+pub mod InOrder
+pub mod Kept
+pub mod Ranges

@@ -1,5 +1,5 @@
 -- Puts made, and puts undone.
-use Rattle.std.proofs.Common.{◌≡◌, ℕ, ◌+◌, suc, ◌<◌, List, [], ◌∷◌, ◌++◌, length, drop, get_or, Option, refl, sym, ap, ◌∙◌, add-one}
+use Rattle.std.proofs.Common.{◌≡◌, ℕ, ◌+◌, suc, ◌<◌, Bool, true, cond, List, [], ◌∷◌, ◌++◌, length, drop, get_or, Option, refl, sym, ap, ◌∙◌, add-one}
 use Rattle.std.proofs.Math.Seq.{drop-cons}
 use Rattle.td_layer.specs.declared.values.Key.{Key}
 use Rattle.td_layer.specs.declared.values.Row.{Row}
@@ -20,9 +20,9 @@ after_more moment puts i p rows new l is made =
     let split : drop i puts ≡ p ∷ drop (suc i) puts = drop-cons puts i p l ∙ ap (λ x. x ∷ drop (suc i) puts) (sym is) in
     rw (add-one, split, made) refl
 
--- and is in the log
-pub before_more : (log : Log) (key : Key) (before : Option Row) (rows new first : Rows) → row_before key before new ≡ rows → rows_before log rows ≡ first → rows_before (log ++ (key, before) ∷ []) new ≡ first
-before_more log key before rows new first undone all = rows_before-push log (key, before) new ∙ ap (rows_before log) undone ∙ all
+-- and is pushed on the log
+pub before_more : (log pushed : Log) (ok : Bool) (key : Key) (before : Option Row) (rows new first : Rows) → pushed ≡ cond ok (log ++ (key, before) ∷ []) log → ok ≡ true → row_before key before new ≡ rows → rows_before log rows ≡ first → rows_before pushed new ≡ first
+before_more log pushed ok key before rows new first is done undone all = rw (is, done) (rows_before-push log (key, before) new ∙ ap (rows_before log) undone ∙ all)
 
 -- the last put of a log is undone
 pub undone_more : (log left : Log) (key : Key) (before : Option Row) (rows new first : Rows) → log ≡ left ++ (key, before) ∷ [] → new ≡ row_before key before rows → rows_before log rows ≡ first → rows_before left new ≡ first

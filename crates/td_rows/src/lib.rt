@@ -8,6 +8,7 @@
 mod lay;
 mod ordered;
 mod puts;
+mod range;
 mod rows;
 
 pub use ordered::OrderedRows;

@@ -1,10 +1,9 @@
 //! Rows that are found by search.
-ghost use Rattle.std.specs.Prelude.{◌≡◌, [], IfOk, OnOk, OnErr, ◌&&◌, ◌==◌, nat_le, not};
-ghost use Rattle.std.specs.Option.{option_copied};
+ghost use Rattle.std.specs.Prelude.{◌≡◌, [], nat_le, not};
 ghost use Rattle.td_model.specs.State.{is_cut};
-ghost use Rattle.td_rows.specs.Puts.{is_to};
 
 use crate::puts::{Undo, put_all};
+use crate::range::lies_in;
 use crate::rows::RowMap;
 use std::alloc::Global;
 use std::collections::BTreeMap;
@@ -56,16 +55,6 @@ impl Undo for OrderedRows {
     }
 }
 
-// Whether a timestamp is not beyond an end, where there is one.
-fn is_to(hi: Option<u64>, ts: u64) -> bool
-    ensures { result ≡ is_to hi ts }
-{
-    match hi {
-        None => true,
-        Some(hi) => ts <= hi,
-    }
-}
-
 impl RowMap for OrderedRows {
     ghost rows = { λ m. m.map.entries };
 
@@ -103,7 +92,7 @@ impl RowMap for OrderedRows {
     ) -> Result<Seq<(u64, Row)>, NoMem> {
         let mut all = Vec::new(alloc);
         for (key, row) in self.map.range(Key { table, ts: lo }..) {
-            if key.table != table || !is_to(hi, key.ts) {
+            if !lies_in(table, lo, hi, key) {
                 break;
             }
             all.push((key.ts, row.copy()?))?;
