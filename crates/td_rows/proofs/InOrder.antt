@@ -32,7 +32,7 @@ set_value-absent test (e ∷ es) x h =
     ] h
 
 -- an entry with another key stays
-row_before-past : (key : Key) (before : Option Row) (e : Key × Row) (es : Rows) → key_cmp key e.0 ≡ Greater → row_before key before (e ∷ es) ≡ e ∷ row_before key before es
+pub row_before-past : (key : Key) (before : Option Row) (e : Key × Row) (es : Rows) → key_cmp key e.0 ≡ Greater → row_before key before (e ∷ es) ≡ e ∷ row_before key before es
 row_before-past key None e es h = rw h refl
 row_before-past key (Some row) e es h = rw h refl
 

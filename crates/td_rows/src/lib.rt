@@ -6,10 +6,12 @@
 #![tactic(auto)]
 
 mod lay;
+mod listed;
 mod ordered;
 mod puts;
 mod range;
 mod rows;
 
+pub use listed::ListedRows;
 pub use ordered::OrderedRows;
 pub use rows::RowMap;
