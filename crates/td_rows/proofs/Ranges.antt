@@ -40,9 +40,9 @@ filter_within p q h (x ∷ xs) = by (filter_within p q h xs) (q x) refl
 keys-filter : (p : Key → Bool) (rows : Rows) → keys_of (filter (λ e. p e.0) rows) ≡ filter p (keys_of rows)
 keys-filter p [] = refl
 keys-filter p (e ∷ es) = elim (p e.0) as (λ b. keys_of (cond b (e ∷ filter (λ e. p e.0) es) (filter (λ e. p e.0) es)) ≡ cond b (e.0 ∷ filter p (keys_of es)) (filter p (keys_of es))) [
-    | true ↦ ap (λ l. e.0 ∷ l) (keys-filter p es)
-    | false ↦ keys-filter p es
-  ]
+  | true ↦ ap (λ l. e.0 ∷ l) (keys-filter p es)
+  | false ↦ keys-filter p es
+]
 
 all_pass : (p : Key → Bool) (rows : Rows) → AllByRecursion (λ e. p e.0 ≡ true) (filter (λ e. p e.0) rows)
 all_pass p [] = tt

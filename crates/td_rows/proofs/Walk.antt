@@ -110,6 +110,7 @@ replaced key row (e ∷ es) d within same = by (replaced key row es d) (key_cmp 
   where
     Goal : ℕ → Type 0
     Goal i = IsPut key row (Some (get_or (e ∷ es) i d).1) (e ∷ es) (set (e ∷ es) i ((get_or (e ∷ es) i d).0, row))
+
     by : (place_of key es < length es → key_cmp key (get_or es (place_of key es) d).0 ≡ Equal → IsPut key row (Some (get_or es (place_of key es) d).1) es (set es (place_of key es) ((get_or es (place_of key es) d).0, row)))
         → (o : Ordering) → key_cmp key e.0 ≡ o → Goal (place_of key (e ∷ es))
     by rest Less h =
@@ -130,6 +131,7 @@ inserted key row (e ∷ es) d apart = by (inserted key row es d) (key_cmp key e.
   where
     Goal : ℕ → Type 0
     Goal i = IsPut key row None (e ∷ es) (insert (e ∷ es) i (key, row))
+
     by : ((place_of key es < length es → is_eq (key_cmp key (get_or es (place_of key es) d).0) ≡ false) → IsPut key row None es (insert es (place_of key es) (key, row)))
         → (o : Ordering) → key_cmp key e.0 ≡ o → Goal (place_of key (e ∷ es))
     by rest Less h = subst Goal (sym (here_of key e es (ap is_le h))) (record { put = rw h refl; undone = rw (same_key key) refl })

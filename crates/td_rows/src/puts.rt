@@ -48,7 +48,7 @@ fn put_one<M: Undo>(
 }
 
 // Undoes the puts of a log, the last first.
-fn undo_all<M: Undo>(rows: &mut M, mut log: Vec<(Key, Option<Row>)>)
+pub(crate) fn undo_all<M: Undo>(rows: &mut M, mut log: Vec<(Key, Option<Row>)>)
     ensures { M.held rows.new ≡ rows_before log.items (M.held rows.old) }
 {
     while let Some((key, before)) = log.pop() {

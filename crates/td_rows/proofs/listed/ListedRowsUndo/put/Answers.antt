@@ -14,8 +14,8 @@ replaces c =
     let within : c.place_of-i.result < length c.args.self.now.list.items = omega arith in
     let own : Key × Row = c.index_mut.result.now in
     let equal : is_eq (key_cmp c.args.key own.0) ≡ true =
-        ap (λ (e : Key × Row). is_eq (key_cmp c.args.key e.0)) c.index_mut.ensures.value
-        ∙ key_test c.args.key c.args.self.now.list.items c.place_of-i.result c.index.result.now own true c.index.ensures within (ap is_eq (sym c.cmp.ensures) ∙ sym c.if-is_eq.ensures) in
+    ap (λ (e : Key × Row). is_eq (key_cmp c.args.key e.0)) c.index_mut.ensures.value
+    ∙ key_test c.args.key c.args.self.now.list.items c.place_of-i.result c.index.result.now own true c.index.ensures within (ap is_eq (sym c.cmp.ensures) ∙ sym c.if-is_eq.ensures) in
     put_replaced c.args.key c.args.row c.deref.result.now c.args.self.now.list.items c.place_of-i.result own
     c.place_of-i.ensures c.deref.ensures.value within c.index_mut.ensures.value equal
 

@@ -18,7 +18,7 @@ loop-key-init c =
 pub loop-key-preserved : goal.loop-key-preserved
 loop-key-preserved c = record {
   all = range_more c.args.table c.args.lo c.args.hi c.loop-key.all.items c.push.new.self.items (range_of c.args.table c.args.lo c.args.hi c.args.self.now.map.entries) c.loop-key.key-iterator c.next.new.self c.in-Some.key.now c.in-Some.row.now
-    c.in-Some.ensures.steps (search rules) (c.in_ok-push.ensures.items ∙ ap (λ (r : Row). c.loop-key.all.items ++ (c.in-Some.key.now.ts, r) ∷ []) c.in_ok-copy.ensures.same) c.loop-key.invariant.all;
+      c.in-Some.ensures.steps (search rules) (c.in_ok-push.ensures.items ∙ ap (λ (r : Row). c.loop-key.all.items ++ (c.in-Some.key.now.ts, r) ∷ []) c.in_ok-copy.ensures.same) c.loop-key.invariant.all;
   left = IsFrom-tail c.args.table c.args.lo (c.in-Some.key.now, c.in-Some.row.now) c.next.new.self (subst (IsFrom c.args.table c.args.lo) c.in-Some.ensures.steps c.loop-key.invariant.left);
 }
 
