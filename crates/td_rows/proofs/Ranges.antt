@@ -12,7 +12,7 @@ use Rattle.std.proofs.lemmas.Map.Keys.{sorted_head, sorted_tail}
 use Rattle.td_layer.specs.declared.values.Key.{Key}
 use Rattle.td_layer.specs.declared.values.Row.{Row}
 use Rattle.td_model.specs.State.{Rows, key_cmp}
-use Rattle.td_rows.specs.Puts.{is_to, lies_in, range_of}
+use Rattle.td_rows.specs.Puts.{lies_in, range_of}
 
 -- whether a key isn't before a table's timestamp
 abbrev pub is_from : ℕ → ℕ → Key → Bool

@@ -1,6 +1,5 @@
 //! Rows that are found by search.
-ghost use Rattle.std.specs.Prelude.{◌≡◌, [], nat_le, not};
-ghost use Rattle.td_model.specs.State.{is_cut};
+ghost use Rattle.std.specs.Prelude.{◌≡◌, []};
 
 use crate::puts::{Undo, put_all};
 use crate::range::lies_in;
@@ -68,19 +67,11 @@ impl RowMap for OrderedRows {
     }
 
     fn cut(&mut self, table: u32, lo: u64, hi: u64) {
-        self.map.retain(
-            |key: &Key, row: &mut Row| -> bool
-                ensures { (result ≡ not (is_cut table lo hi key.now)) × (row.new ≡ row.old) }
-            { key.table != table || key.ts < lo || hi < key.ts },
-        );
+        self.map.retain(|key, _| !lies_in(table, lo, Some(hi), key));
     }
 
     fn keep_from(&mut self, ts: u64) {
-        self.map.retain(
-            |key: &Key, row: &mut Row| -> bool
-                ensures { (result ≡ nat_le ts key.now.ts) × (row.new ≡ row.old) }
-            { ts <= key.ts },
-        );
+        self.map.retain(|key, _| ts <= key.ts);
     }
 
     fn rows_of(

@@ -2,8 +2,7 @@ use Rattle.std.proofs.Common.{◌≡◌, ◌<◌, true, false, Some, None, lengt
 use Rattle.std.specs.Ordering.{is_le}
 use Rattle.td_layer.specs.declared.values.Key.{Key}
 use Rattle.td_layer.specs.declared.values.Row.{Row}
-use Rattle.td_model.specs.State.{Rows, key_cmp, with_row}
-use Rattle.td_rows.specs.Before.{row_before}
+use Rattle.td_model.specs.State.{Rows, key_cmp}
 use Rattle.td_rows.proofs.Walk.{IsPut, walk_within, put_replaced, put_inserted, key_test}
 use Rattle.td_rows.proofs.listed.ListedRowsUndo.put.Goals as goal
 use Rattle.td_rows.proofs.listed.ListedRowsUndo.put.Goals.{else-i-len-via-then-i-len+else-is_eq, else-i-len-via-else-i-len}

@@ -1,4 +1,3 @@
-use Rattle.td_rows.specs.Before.{row_before}
 use Rattle.td_rows.proofs.InOrder.{put_undone}
 use Rattle.td_rows.proofs.ordered.OrderedRowsUndo.put.Goals as goal
 
