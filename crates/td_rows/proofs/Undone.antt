@@ -9,7 +9,7 @@ use Rattle.td_rows.specs.Puts.{row_after, rows_after}
 use Rattle.td_rows.specs.Before.{row_before, Log, rows_before}
 
 -- the last put of a log is undone first
-pub rows_before-push : (log : Log) (e : Key × Option Row) (rows : Rows) → rows_before (log ++ e ∷ []) rows ≡ rows_before log (row_before e.0 e.1 rows)
+rows_before-push : (log : Log) (e : Key × Option Row) (rows : Rows) → rows_before (log ++ e ∷ []) rows ≡ rows_before log (row_before e.0 e.1 rows)
 rows_before-push [] e rows = refl
 rows_before-push (d ∷ log) e rows = ap (row_before d.0 d.1) (rows_before-push log e rows)
 

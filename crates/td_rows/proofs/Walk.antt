@@ -52,6 +52,7 @@ row_removed test (e ∷ es) within = by (row_removed test es) (test e.0) refl
         let inside : place_by test es < length es = omega arith in
         rw past (rw h (ap (λ l. e ∷ l) (rest inside)))
 
+-- where there is none, neither changes anything
 none_set : (test : Key → Bool) (rows : Rows) (row : Row) → place_by test rows ≡ length rows → set_value test rows row ≡ rows
 none_set test [] row none = refl
 none_set test (e ∷ es) row none = by (none_set test es row) (test e.0) refl
@@ -72,7 +73,7 @@ none_removed test (e ∷ es) none = by (none_removed test es) (test e.0) refl
         let past : place_by test (e ∷ es) ≡ suc (place_by test es) = place_past test e es h in
         rw h (ap (λ l. e ∷ l) (rest (omega arith)))
 
--- where no entry has the key, nothing is undone
+-- so nothing is undone of a key that isn't there
 none_undone : (key : Key) (before : Option Row) (rows : Rows) → place_by (is_at (key_cmp key)) rows ≡ length rows → rows ≡ row_before key before rows
 none_undone key None rows none = sym (none_removed (is_at (key_cmp key)) rows none)
 none_undone key (Some row) rows none = sym (none_set (is_at (key_cmp key)) rows row none)
@@ -150,6 +151,13 @@ walk_within test walked i len is long = omega (arith, place-le test walked)
 pub walk_inside : (test : Key → Bool) (walked : Rows) (i len : ℕ) → i ≡ place_by test walked → length walked ≡ len → (i ≡ len → ⊥) → i < len
 walk_inside test walked i len is long apart = let within : i ≤ len = walk_within test walked i len is long in omega arith
 
+inside_of : (key : Key) (walked rows : Rows) (i len : ℕ) → i ≡ place_by (is_at (key_cmp key)) walked → walked ≡ rows → length walked ≡ len → (i ≡ len → ⊥) → place_by (is_at (key_cmp key)) rows < length rows
+inside_of key walked rows i len is same long apart =
+    let within : i < len = walk_inside (is_at (key_cmp key)) walked i len is long apart in
+    let place : i ≡ place_by (is_at (key_cmp key)) rows = is ∙ ap (place_by (is_at (key_cmp key))) same in
+    let whole : length rows ≡ len = sym (ap length same) ∙ long in
+    omega arith
+
 -- What is undone there: nothing, an entry, or its row.
 pub undone_nowhere : (key : Key) (before : Option Row) (walked rows : Rows) (i len : ℕ) → i ≡ place_by (is_at (key_cmp key)) walked → walked ≡ rows → length walked ≡ len → i ≡ len → rows ≡ row_before key before rows
 undone_nowhere key before walked rows i len is same long end =
@@ -159,13 +167,13 @@ undone_nowhere key before walked rows i len is same long end =
 pub undone_removed : (key : Key) (before : Option Row) (walked rows new : Rows) (i len : ℕ) → i ≡ place_by (is_at (key_cmp key)) walked → walked ≡ rows → length walked ≡ len → (i ≡ len → ⊥) → before ≡ None → new ≡ remove rows i → new ≡ row_before key before rows
 undone_removed key before walked rows new i len is same long apart none removed =
     let place : i ≡ place_by (is_at (key_cmp key)) rows = is ∙ ap (place_by (is_at (key_cmp key))) same in
-    let inside : place_by (is_at (key_cmp key)) rows < length rows = let within : i < len = walk_inside (is_at (key_cmp key)) walked i len is long apart in let whole : length rows ≡ len = sym (ap length same) ∙ long in omega arith in
+    let inside : place_by (is_at (key_cmp key)) rows < length rows = inside_of key walked rows i len is same long apart in
     rw (none, removed, place) (sym (row_removed (is_at (key_cmp key)) rows inside))
 
 pub undone_set : (key : Key) (before : Option Row) (row : Row) (walked rows : Rows) (i len : ℕ) (own : Key × Row) → i ≡ place_by (is_at (key_cmp key)) walked → walked ≡ rows → length walked ≡ len → (i ≡ len → ⊥) → before ≡ Some row → own ≡ get_or rows i own → set rows i (own.0, row) ≡ row_before key before rows
 undone_set key before row walked rows i len own is same long apart some at =
     let place : i ≡ place_by (is_at (key_cmp key)) rows = is ∙ ap (place_by (is_at (key_cmp key))) same in
-    let inside : place_by (is_at (key_cmp key)) rows < length rows = let within : i < len = walk_inside (is_at (key_cmp key)) walked i len is long apart in let whole : length rows ≡ len = sym (ap length same) ∙ long in omega arith in
+    let inside : place_by (is_at (key_cmp key)) rows < length rows = inside_of key walked rows i len is same long apart in
     rw some (ap (λ (e : Key × Row). set rows i (e.0, row)) at ∙ ap (λ n. set rows n ((get_or rows n own).0, row)) place ∙ sym (row_set (is_at (key_cmp key)) rows row own inside))
 
 -- What is put there: another row at its key, or an entry before it.
