@@ -1,0 +1,5 @@
+pub mod Undone
+pub mod InOrder
+pub mod Kept
+pub mod Ranges
+pub mod Walk
