@@ -3,4 +3,5 @@ pub mod Lists
 pub mod Orders
 pub mod Kept
 pub mod Times
+pub mod OfTags
 pub mod SamePicks
