@@ -99,17 +99,14 @@ pub(crate) fn row_cells(
 fn holds(comparison: &Comparison, cells: &Seq<Cell>) -> bool
     ensures { result ≡ holds cells.now comparison.now }
 {
-    td_tagidx::tag_matches(
-        cells,
-        comparison.place,
-        comparison.op,
-        &comparison.operand,
-    )
+    td_tagidx::tag_matches(cells, comparison.place, comparison.op, &comparison.operand)
 }
 
 // Whether all comparisons are true of a row's cells.
 pub(crate) fn all_hold(comparisons: &[Comparison], cells: &Seq<Cell>) -> bool
     ensures { result ≡ all_hold comparisons.now cells.now }
 {
-    comparisons.iter().all(|comparison| holds(comparison, cells))
+    comparisons
+        .iter()
+        .all(|comparison| holds(comparison, cells))
 }

@@ -11,5 +11,7 @@ mod answers;
 mod cells;
 mod picks;
 mod shown;
+#[cfg(test)]
+mod tests;
 
 pub use answers::answer;
