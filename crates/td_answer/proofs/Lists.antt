@@ -49,11 +49,19 @@ drop_past [] (suc at) h = refl
 drop_past (y ∷ xs) zero h = absurd (cc)
 drop_past (y ∷ xs) (suc at) h = drop_past xs at h
 
-pub put_next : {X : Type 0} (f : X → Found) (xs : List X) (at : ℕ) (x : X) (found : Found) → slice_get xs at ≡ Some x → put_in_time (put_in_time found (f x)) (flat_map f (drop (at + 1) xs)) ≡ put_in_time found (flat_map f (drop at xs))
-put_next f xs at x found h =
-    ap (λ n. put_in_time (put_in_time found (f x)) (flat_map f (drop n xs))) (add-one at)
-    ∙ sym (put_append found (f x) (flat_map f (drop (suc at) xs)))
-    ∙ ap (λ ys. put_in_time found (flat_map f ys)) (sym (drop_at xs at x h))
+-- a table's rows are put, and those of the tables after it are left, or there is no such table
+module _ {X : Type 0} (f : X → Found) (xs : List X) (at : ℕ) (found all : Found) (so_far : put_in_time found (flat_map f (drop at xs)) ≡ all) where
+  pub put_next : (x : X) (next : Found) → slice_get xs at ≡ Some x → next ≡ put_in_time found (f x) → put_in_time next (flat_map f (drop (at + 1) xs)) ≡ all
+  put_next x next h put =
+      ap (λ n. put_in_time next (flat_map f (drop n xs))) (add-one at)
+      ∙ ap (λ es. put_in_time es (flat_map f (drop (suc at) xs))) put
+      ∙ sym (put_append found (f x) (flat_map f (drop (suc at) xs)))
+      ∙ ap (λ ys. put_in_time found (flat_map f ys)) (sym (drop_at xs at x h))
+      ∙ so_far
 
-pub put_none : {X : Type 0} (f : X → Found) (xs : List X) (at : ℕ) (found : Found) → slice_get xs at ≡ None → put_in_time found (flat_map f (drop (at + 1) xs)) ≡ put_in_time found (flat_map f (drop at xs))
-put_none f xs at found h = ap (λ n. put_in_time found (flat_map f (drop n xs))) (add-one at) ∙ ap (λ ys. put_in_time found (flat_map f ys)) (drop_past xs at h)
+  pub put_none : (next : Found) → slice_get xs at ≡ None → next ≡ found → put_in_time next (flat_map f (drop (at + 1) xs)) ≡ all
+  put_none next h same =
+      ap (λ n. put_in_time next (flat_map f (drop n xs))) (add-one at)
+      ∙ ap (λ es. put_in_time es (flat_map f (drop (suc at) xs))) same
+      ∙ ap (λ ys. put_in_time found (flat_map f ys)) (drop_past xs at h)
+      ∙ so_far

@@ -33,7 +33,9 @@ fn shown_of<M: RowMap>(
 }
 
 /// The answer of a plan with its query's comparisons, which shows these places of each row that it picks: by timestamp, then by
-/// table, or the reverse; then OFFSET, then LIMIT.
+/// table, or the reverse; then OFFSET, then LIMIT. The comparisons are those of the plan's query, all of which are true of a row
+/// that is picked. A place that a row doesn't have shows NULL, and a negative OFFSET or LIMIT counts as 0. `Err(NoMem)` is want
+/// of memory.
 pub fn answer<M: RowMap>(
     alloc: Global,
     plan: &Plan,
@@ -43,6 +45,6 @@ pub fn answer<M: RowMap>(
 ) -> Result<Seq<Seq<Cell>>, NoMem>
     ensures { (q : Query) (c : Catalog) → plan.now ≡ plan_of q c → comparisons.now ≡ comparisons_of (source_schema q.source c) q.conds → IfOk result (λ all. all ≡ answer_of q places.now (picked_of (source_schema q.source c).columns comparisons.now (source_tables q.source c) (M.rows rows.now))) }
 {
-    let all = shown_of(alloc, plan, comparisons, places, rows)?;
-    Ok(all)
+    let shown = shown_of(alloc, plan, comparisons, places, rows)?;
+    Ok(shown)
 }

@@ -97,54 +97,34 @@ fn name(alloc: Global, text: &str) -> Result<Name, NoMem> {
     Seq::of_bytes(alloc, text.as_bytes())
 }
 
-fn column(alloc: Global, text: &str, kind: Kind) -> Result<Column, NoMem> {
-    let name = name(alloc, text)?;
-    Ok(Column { name, kind })
-}
-
-// The source of a query.
-#[derive(Clone, Copy, Debug)]
-enum Source {
-    Meters,
-    Table,
-}
-
-fn schema(alloc: Global, source: Source) -> Result<Schema, Fail> {
-    let time = column(alloc, "ts", Kind::Time)?;
-    let voltage = column(alloc, "voltage", Kind::I32)?;
-    let on = column(alloc, "on", Kind::Bool)?;
-    let location = column(alloc, "location", Kind::Text(64))?;
-    let group = column(alloc, "groupid", Kind::I32)?;
-    let (columns, tags) = match source {
-        Source::Meters => (
-            vec![in alloc; time, voltage]?,
-            vec![in alloc; location, group]?,
-        ),
-        Source::Table => (vec![in alloc; time, on]?, vec![in alloc]?),
+fn schema(alloc: Global, tables: &[u32]) -> Result<Schema, NoMem> {
+    let value = match tables {
+        [3] => Kind::Bool,
+        _ => Kind::I32,
     };
-    Ok(Schema {
-        columns: Seq::from_vec(alloc, columns),
-        tags: Seq::from_vec(alloc, tags),
-    })
+    let mut columns = Seq::new(alloc);
+    for kind in [Kind::Time, value] {
+        let name = Seq::new(alloc);
+        if columns.push(Column { name, kind }).is_err() {
+            return Err(NoMem);
+        }
+    }
+    let tags = Seq::new(alloc);
+    Ok(Schema { columns, tags })
 }
 
-// A query with its plan: the tables that it reads, a comparison of a place with a number or with NULL, the timestamps that
-// this leaves, and what is shown of which places.
-#[derive(Clone, Copy, Debug)]
-struct Case {
-    source: Source,
-    tables: &'static [u32],
-    comparison: Option<(usize, Op, Option<i128>)>,
-    range: (u64, u64),
-    desc: bool,
-    skip: i128,
-    limit: Option<i128>,
-    places: &'static [usize],
-    shown: &'static str,
-}
+// What a query says of its answer: whether the order is DESC, OFFSET and LIMIT.
+type Cut = (bool, i128, Option<i128>);
 
-fn query(alloc: Global, case: &Case) -> Result<Query, NoMem> {
-    let order = if case.desc {
+// A comparison of a place with a number or with NULL, if there is one, and the timestamps that it leaves.
+type Where = (Option<(usize, Op, Option<i128>)>, (u64, u64));
+
+const ALL: Where = (None, (0, LAST));
+
+const PLAIN: Cut = (false, 0, None);
+
+fn query(alloc: Global, (desc, skip, limit): Cut) -> Result<Query, NoMem> {
+    let order = if desc {
         OrderBy::Desc(name(alloc, "ts")?)
     } else {
         OrderBy::Plain
@@ -157,8 +137,8 @@ fn query(alloc: Global, case: &Case) -> Result<Query, NoMem> {
         parts: Seq::new(alloc),
         window: WindowDef::Whole,
         order,
-        skip: case.skip,
-        limit: case.limit,
+        skip,
+        limit,
     })
 }
 
@@ -171,34 +151,40 @@ fn tags(alloc: Global, table: u32) -> Result<Seq<Cell>, Fail> {
     Ok(Seq::from_vec(alloc, cells))
 }
 
-fn plan(alloc: Global, case: &Case) -> Result<Plan, Fail> {
+fn table_name(table: u32) -> &'static str {
+    match table {
+        1 => "d1",
+        2 => "d2",
+        _ => "e",
+    }
+}
+
+fn plan(alloc: Global, tables: &[u32], range: (u64, u64), cut: Cut) -> Result<Plan, Fail> {
     let mut all_tags = Vec::new(alloc);
     let mut names = Vec::new(alloc);
-    for table in case.tables {
+    for table in tables {
         all_tags.push(tags(alloc, *table)?)?;
-        let text = match table {
-            1 => "d1",
-            2 => "d2",
-            _ => "e",
-        };
-        names.push(name(alloc, text)?)?;
+        names.push(name(alloc, table_name(*table))?)?;
     }
     Ok(Plan {
-        query: query(alloc, case)?,
-        tables: Seq::from_vec(alloc, Vec::from_slice(alloc, case.tables)?),
+        query: query(alloc, cut)?,
+        tables: Seq::from_vec(alloc, Vec::from_slice(alloc, tables)?),
         parts: Seq::new(alloc),
         tags: Seq::from_vec(alloc, all_tags),
         names: Seq::from_vec(alloc, names),
-        schema: schema(alloc, case.source)?,
-        lo: case.range.0,
-        hi: case.range.1,
+        schema: schema(alloc, tables)?,
+        lo: range.0,
+        hi: range.1,
         target: None,
     })
 }
 
-fn comparisons(alloc: Global, case: &Case) -> Result<Vec<Comparison>, Fail> {
+fn comparisons(
+    alloc: Global,
+    of: Option<(usize, Op, Option<i128>)>,
+) -> Result<Vec<Comparison>, Fail> {
     let mut all = Vec::new(alloc);
-    if let Some((place, op, number)) = case.comparison {
+    if let Some((place, op, number)) = of {
         let operand = match number {
             Some(n) => Cell::Num(n),
             None => Cell::Null,
@@ -220,7 +206,6 @@ fn tell(text: &mut String, cell: &Cell) -> Result<(), Fail> {
             }
         }
     }
-    text.push_str(" ")?;
     Ok(())
 }
 
@@ -228,105 +213,94 @@ fn told(alloc: Global, rows: &[Seq<Cell>]) -> Result<String, Fail> {
     let mut text = String::new(alloc);
     for row in rows {
         for cell in row.as_slice() {
+            text.push_str(" ")?;
             tell(&mut text, cell)?;
         }
-        text.push_str("; ")?;
+        text.push_str(";")?;
     }
     Ok(text)
+}
+
+// What is shown of a query.
+fn shown(
+    alloc: Global,
+    rows: &FixedRows,
+    tables: &[u32],
+    (comparison, range): Where,
+    cut: Cut,
+    places: &[usize],
+) -> Result<String, Fail> {
+    let plan = plan(alloc, tables, range, cut)?;
+    let comparisons = comparisons(alloc, comparison)?;
+    let all = answer(alloc, &plan, &comparisons, places, rows)?;
+    told(alloc, all.as_slice())
 }
 
 #[test]
 fn answers(rt: HostRuntime) -> Result<(), Fail> {
     let alloc = rt.alloc();
     let rows = fixed_rows(alloc)?;
-    let all = Case {
-        source: Source::Meters,
-        tables: &[1, 2],
-        comparison: None,
-        range: (0, LAST),
-        desc: false,
-        skip: 0,
-        limit: None,
-        places: &[0, 1],
-        shown: "d2 4 ; d1 5 ; d1 15 ; d2 15 ; ",
-    };
-    for case in [
-        all,
-        Case {
-            places: &[1, 2, 3, 4],
-            shown: "4 220 NULL 3 ; 5 219 a 2 ; 15 NULL a 2 ; 15 221 NULL 3 ; ",
-            ..all
-        },
-        Case {
-            tables: &[2],
-            comparison: Some((4, Op::Eq, Some(3))),
-            places: &[0, 2],
-            shown: "d2 220 ; d2 221 ; ",
-            ..all
-        },
-        Case {
-            comparison: Some((2, Op::Ne, Some(0))),
-            shown: "d2 4 ; d1 5 ; d2 15 ; ",
-            ..all
-        },
-        Case {
-            comparison: Some((2, Op::IsNull, None)),
-            shown: "d1 15 ; ",
-            ..all
-        },
-        Case {
-            comparison: Some((1, Op::Gt, Some(4))),
-            range: (5, LAST),
-            shown: "d1 5 ; d1 15 ; d2 15 ; ",
-            ..all
-        },
-        Case {
-            comparison: Some((1, Op::Le, Some(5))),
-            range: (0, 5),
-            shown: "d2 4 ; d1 5 ; ",
-            ..all
-        },
-        Case {
-            desc: true,
-            skip: 1,
-            limit: Some(2),
-            shown: "d1 15 ; d1 5 ; ",
-            ..all
-        },
-        Case {
-            skip: i128::MAX,
-            shown: "",
-            ..all
-        },
-        Case {
-            skip: -1,
-            limit: Some(i128::MAX),
-            ..all
-        },
-        Case {
-            limit: Some(-1),
-            shown: "",
-            ..all
-        },
-        Case {
-            places: &[0, 5],
-            shown: "d2 NULL ; d1 NULL ; d1 NULL ; d2 NULL ; ",
-            ..all
-        },
-        Case {
-            source: Source::Table,
-            tables: &[3],
-            comparison: Some((2, Op::Eq, Some(1))),
-            places: &[1, 2],
-            shown: "7 true ; ",
-            ..all
-        },
+    let both: &[u32] = &[1, 2];
+    let first: &[usize] = &[0, 1];
+    for (tables, of, cut, places, wanted) in [
+        (both, ALL, PLAIN, first, " d2 4; d1 5; d1 15; d2 15;"),
+        (
+            both,
+            ALL,
+            PLAIN,
+            &[1, 2, 3, 4, 5],
+            " 4 220 NULL 3 NULL; 5 219 a 2 NULL; 15 NULL a 2 NULL; 15 221 NULL 3 NULL;",
+        ),
+        (
+            &[2],
+            (Some((4, Op::Eq, Some(3))), (0, LAST)),
+            PLAIN,
+            &[0, 2],
+            " d2 220; d2 221;",
+        ),
+        (
+            &[3],
+            (Some((2, Op::Eq, Some(1))), (0, LAST)),
+            PLAIN,
+            &[1, 2],
+            " 7 true;",
+        ),
+        (
+            both,
+            (Some((2, Op::Ne, Some(0))), (0, LAST)),
+            PLAIN,
+            first,
+            " d2 4; d1 5; d2 15;",
+        ),
+        (
+            both,
+            (Some((2, Op::IsNull, None)), (0, LAST)),
+            PLAIN,
+            first,
+            " d1 15;",
+        ),
+        (
+            both,
+            (Some((1, Op::Gt, Some(4))), (5, LAST)),
+            PLAIN,
+            first,
+            " d1 5; d1 15; d2 15;",
+        ),
+        (
+            both,
+            (Some((1, Op::Le, Some(5))), (0, 5)),
+            PLAIN,
+            first,
+            " d2 4; d1 5;",
+        ),
+        (both, ALL, (true, 1, Some(2)), first, " d1 15; d1 5;"),
+        (both, ALL, (false, i128::MAX, None), first, ""),
+        (both, ALL, (false, 3, Some(i128::MAX)), first, " d2 15;"),
+        (both, ALL, (false, -1, Some(1)), first, " d2 4;"),
+        (both, ALL, (false, 0, Some(-1)), first, ""),
     ] {
-        let plan = plan(alloc, &case)?;
-        let comparisons = comparisons(alloc, &case)?;
-        let answer = answer(alloc, &plan, &comparisons, case.places, &rows)?;
-        let text = told(alloc, answer.as_slice())?;
-        assert_eq!(rt; text.as_str(), case.shown, "at {case:?}");
+        let text = shown(alloc, &rows, tables, of, cut, places)?;
+        assert_eq!(rt; text.as_str(), wanted);
     }
     Ok(())
 }

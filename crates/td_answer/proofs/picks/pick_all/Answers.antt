@@ -1,7 +1,7 @@
-use Rattle.std.proofs.Common.{◌+◌, List, drop, sym, ap, ◌∙◌, arith}
+use Rattle.std.proofs.Common.{List, sym, ap, ◌∙◌, arith}
 use Rattle.std.specs.List.{flat_map}
 use Rattle.td_verdict.specs.Answers.{Found, put_in_time}
-use Rattle.td_answer.specs.Picks.{Listed, keyed, listed, tables_of, table_found}
+use Rattle.td_answer.specs.Picks.{Listed, keyed, listed, tables_of, table_found, plan_found}
 use Rattle.td_answer.proofs.Lists.{no_more, put_next, put_none}
 use Rattle.td_answer.proofs.picks.pick_all.Goals.{in-Some+in_ok-pick_table, in_default}
 use Rattle.td_answer.proofs.picks.pick_all.Goals as goal
@@ -10,17 +10,12 @@ pub loop-at-preserved : goal.loop-at-preserved
 loop-at-preserved g c =
     let f : Listed → Found = table_found c.args.plan.now c.args.comparisons.now (g.M.RowMap.rows c.args.rows.now) in
     let xs : List Listed = tables_of c.args.plan.now in
-    let rest : Found = flat_map f (drop (c.loop-at.at + 1) xs) in
+    let found : Found = keyed c.loop-at.picked.entries in
+    let next : Found = keyed c.match-table_at.picked.entries in
+    let all : Found = plan_found c.args.plan.now c.args.comparisons.now (g.M.RowMap.rows c.args.rows.now) in
     elim c.match-table_at.branch [
-      | in-Some+in_ok-pick_table w ↦
-          ap (λ v. put_in_time (keyed v.entries) rest) w.picked-is
-          ∙ ap (λ found. put_in_time found rest) w.in_ok-pick_table.ensures
-          ∙ put_next f xs c.loop-at.at (listed w.in-Some.table) (keyed c.loop-at.picked.entries) (sym w.in-Some.ensures)
-          ∙ c.loop-at.invariant
-      | in_default w ↦
-          ap (λ v. put_in_time (keyed v.entries) rest) w.picked-is
-          ∙ put_none f xs c.loop-at.at (keyed c.loop-at.picked.entries) (sym w.in_default.ensures)
-          ∙ c.loop-at.invariant
+      | in-Some+in_ok-pick_table w ↦ put_next f xs c.loop-at.at found all c.loop-at.invariant (listed w.in-Some.table) next (sym w.in-Some.ensures) (ap (λ v. keyed v.entries) w.picked-is ∙ w.in_ok-pick_table.ensures)
+      | in_default w ↦ put_none f xs c.loop-at.at found all c.loop-at.invariant next (sym w.in_default.ensures) (ap (λ v. keyed v.entries) w.picked-is)
     ]
 
 pub returns : goal.returns
