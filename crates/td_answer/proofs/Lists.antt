@@ -4,7 +4,7 @@ use Rattle.std.specs.List.{slice_get, flat_map}
 use Rattle.td_layer.specs.declared.values.Cell.{Cell}
 use Rattle.td_verdict.specs.Answers.{Found, time_cmp, put_in_time}
 use Rattle.std.specs.BTreeMap.{insert_entry}
-use Rattle.td_answer.specs.Picks.{Listed, listed_by, tables_from}
+use Rattle.td_answer.specs.Picks.{listed_by, tables_from}
 
 unnamed : (n : Option ℕ) (tags : Option (List Cell)) → None ≡ listed_by n None tags
 unnamed None tags = refl

@@ -1,13 +1,11 @@
 -- What a plan picks is what its query picks.
-use Rattle.std.proofs.Common.{◌≡◌, ℕ, Bool, true, false, cond, ◌&&◌, ◌==◌, nat_le, List, [], ◌∷◌, ◌++◌, map, filter, length, Option, Some, None, refl, sym, ap, ◌∙◌, arith}
+use Rattle.std.proofs.Common.{◌≡◌, Bool, true, false, cond, ◌&&◌, ◌==◌, nat_le, List, [], ◌∷◌, ◌++◌, map, filter, length, Some, None, refl, sym, ap, ◌∙◌, arith}
 use Rattle.std.specs.List.{flat_map}
 use Rattle.std.proofs.lemmas.Bool.{and_left, and_from, eqb-true, le-leb}
-use Rattle.std.proofs.lemmas.Bool.Decides.{nat_tests}
 use Rattle.td_layer.specs.declared.values.Key.{Key}
 use Rattle.td_layer.specs.declared.values.Row.{Row}
 use Rattle.td_layer.specs.declared.values.Cell.{Cell}
 use Rattle.td_model.specs.declared.catalog.Column.{Column}
-use Rattle.td_model.specs.declared.catalog.TableDef.{TableDef}
 use Rattle.td_model.specs.declared.catalog.Schema.{Schema}
 use Rattle.td_model.specs.declared.language.Query.{Query}
 use Rattle.td_model.specs.declared.plan.Plan.{Plan}
@@ -15,7 +13,7 @@ use Rattle.td_model.specs.Catalog.{Catalog}
 use Rattle.td_model.specs.State.{Rows}
 use Rattle.td_verdict.specs.declared.comparison.Comparison.{Comparison}
 use Rattle.td_verdict.specs.Writes.{last_time}
-use Rattle.td_verdict.specs.Fields.{row_cells, all_hold, comparisons_of}
+use Rattle.td_verdict.specs.Fields.{all_hold, comparisons_of}
 use Rattle.td_verdict.specs.Queries.{source_schema}
 use Rattle.td_verdict.specs.Plans.{Numbered, all_hold_of_tags, lowest, highest, plan_over, plan_of, source_tables}
 use Rattle.td_verdict.specs.Answers.{Found, rows_of, found_row, found_in, put_in_time, picked_of}

@@ -1,4 +1,4 @@
-use Rattle.std.proofs.Common.{ap, sym, ◌∙◌}
+use Rattle.std.proofs.Common.{ap, ◌∙◌}
 use Rattle.td_verdict.specs.Answers.{answer_of}
 use Rattle.td_answer.specs.Picks.{plan_found}
 use Rattle.td_answer.proofs.SamePicks.{plan_picks}
