@@ -3,9 +3,15 @@
 //! [`answer`] reads the rows of a plan's tables in the plan's range of timestamps and gives those of which all comparisons are
 //! true, in the order of the answer. It promises the answer of the definitions (`td_verdict`).
 //!
-//! It stands on `td_verdict` for the definitions, on `td_rows` for the rows, and on `td_model` and `td_layer` for the types.
+//! It stands on `td_verdict` for the definitions, on `td_rows` for the rows, on `td_tagidx` for the comparison of cells, and on
+//! `td_model` and `td_layer` for the types.
 #![tactic(auto)]
 
 mod answers;
+mod cells;
+mod picks;
+mod shown;
+#[cfg(test)]
+mod tests;
 
 pub use answers::answer;

@@ -85,8 +85,9 @@ fn cell_matches(op: Op, a: &Cell, b: &Cell) -> bool
     }
 }
 
-// Whether there is a tag at a place, and it passes a comparison.
-pub(crate) fn tag_matches(tags: &Seq<Cell>, tag: usize, op: Op, lit: &Cell) -> bool
+/// Whether there is a tag at a place, from 0, and it passes a comparison with a cell. `IsNull` and `NotNull` don't look at
+/// that cell, and no other comparison with NULL passes.
+pub fn tag_matches(tags: &Seq<Cell>, tag: usize, op: Op, lit: &Cell) -> bool
     ensures { result ≡ tag_matches tag op lit.now tags.now }
 {
     match tags.get(tag) {
