@@ -154,7 +154,11 @@ fn mismatch_at(schema: &Schema, cond: &Cond, text: &Name) -> Result<Option<Cause
             Ok(Some(Cause::TypeMismatch { column }))
         }
         PartBy::Tag(name) => {
-            let unsuited = field_named(schema, name).filter(|column| !suits(column.kind, 0, &cond.lit));
+            let unsuited = field_named(schema, name).filter(|column| !suits(
+                column.kind,
+                0,
+                &cond.lit,
+            ));
             let cause = mismatch_of(unsuited)?;
             Ok(cause)
         }

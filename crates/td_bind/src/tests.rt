@@ -165,3 +165,148 @@ fn rows_go_into_tables(rt: HostRuntime) -> Result<(), Fail> {
     }
     Ok(())
 }
+
+/// Queries over the schema of their source.
+mod fields {
+    use super::{columns, name};
+    use crate::selects::body_cause;
+    use crate::{comparisons, header, shown_places};
+    use std::alloc::Global;
+    use std::test::Fail;
+    use td_layer::{Cell, Name, NoMem, Seq};
+    use td_model::{
+        Cause, Cond, Item, ItemKind, Kind, Lit, Op, OrderBy, PartBy, Query, Schema, WindowDef,
+    };
+
+    fn schema(alloc: Global) -> Result<Schema, NoMem> {
+        Ok(Schema {
+            columns: columns(alloc, &[("ts", Kind::Time), ("on", Kind::Bool)])?,
+            tags: columns(alloc, &[("location", Kind::Text(64))])?,
+        })
+    }
+
+    // Items by their names and aliases. TBNAME is no column, and an alias may be left out.
+    fn items(alloc: Global, of: &[(&str, &str)]) -> Result<Seq<Item>, NoMem> {
+        let mut items = Seq::new(alloc);
+        for (text, alias) in of {
+            let text = name(alloc, text)?;
+            let alias = name(alloc, alias)?;
+            let item = Item {
+                what: if text.as_slice() == b"TBNAME".as_slice() {
+                    ItemKind::TbName
+                } else {
+                    ItemKind::Col(text)
+                },
+                alias: if alias.is_empty() { None } else { Some(alias) },
+            };
+            if items.push(item).is_err() {
+                return Err(NoMem);
+            }
+        }
+        Ok(items)
+    }
+
+    // A query of these items, and of `*` where there are none.
+    fn select(alloc: Global, of: &[(&str, &str)]) -> Result<Query, NoMem> {
+        Ok(Query {
+            star: of.is_empty(),
+            items: items(alloc, of)?,
+            source: name(alloc, "meters")?,
+            conds: Seq::new(alloc),
+            parts: Seq::new(alloc),
+            window: WindowDef::Whole,
+            order: OrderBy::Plain,
+            skip: 0,
+            limit: None,
+        })
+    }
+
+    fn cond(alloc: Global, of: &str, op: Op, lit: Lit) -> Result<Cond, NoMem> {
+        let of = name(alloc, of)?;
+        let of = if of.is_empty() {
+            PartBy::TbName
+        } else {
+            PartBy::Tag(of)
+        };
+        Ok(Cond { of, op, lit })
+    }
+
+    fn is_listed(names: &[Name], of: &[&str]) -> bool {
+        names.len() == of.len()
+            && names
+                .iter()
+                .zip(of)
+                .all(|(name, text)| name.as_slice() == text.as_bytes())
+    }
+
+    #[test]
+    fn names_find_the_cells_of_a_row(rt: HostRuntime) -> Result<(), Fail> {
+        let alloc = rt.alloc();
+        let schema = schema(alloc)?;
+        let star = select(alloc, &[])?;
+        let some = select(
+            alloc,
+            &[
+                ("location", "at"),
+                ("TBNAME", ""),
+                ("nosuch", ""),
+                ("ts", ""),
+            ],
+        )?;
+        for (is_table, query, titles, shown) in [
+            (true, &star, ["ts", "on"].as_slice(), [1, 2].as_slice()),
+            (false, &star, &["ts", "on", "location"], &[1, 2, 3]),
+            (false, &some, &["at", "TBNAME", "nosuch", "ts"], &[3, 0, 1]),
+        ] {
+            let names = header(alloc, is_table, &schema, query)?;
+            assert!(rt; is_listed(names.as_slice(), titles));
+            let places = shown_places(alloc, is_table, &schema, query)?;
+            assert_eq!(rt; places.as_slice(), shown);
+        }
+        Ok(())
+    }
+
+    #[test]
+    fn conditions_are_compared_with_cells(rt: HostRuntime) -> Result<(), Fail> {
+        let alloc = rt.alloc();
+        let conds = [
+            cond(alloc, "", Op::Ne, Lit::Str(name(alloc, "d1")?))?,
+            cond(alloc, "nosuch", Op::Eq, Lit::Num(5))?,
+            cond(alloc, "on", Op::Eq, Lit::True)?,
+            cond(alloc, "ts", Op::Lt, Lit::Num(-5))?,
+            cond(alloc, "location", Op::IsNull, Lit::Null)?,
+        ];
+        let wanted = [
+            (0, Op::Ne, Cell::Str(name(alloc, "d1")?)),
+            (2, Op::Eq, Cell::Num(1)),
+            (1, Op::Lt, Cell::Num(-5)),
+            (3, Op::IsNull, Cell::Null),
+        ];
+        let all = comparisons(alloc, &schema(alloc)?, &conds)?;
+        assert_eq!(rt; all.len(), wanted.len());
+        for (found, (place, op, operand)) in all.as_slice().iter().zip(&wanted) {
+            assert_eq!(rt; (found.place, found.op), (*place, *op));
+            let shown = format!(in alloc; "{:?}", found.operand)?;
+            let expected = format!(in alloc; "{:?}", operand)?;
+            assert_eq!(rt; shown.as_str(), expected.as_str());
+        }
+        Ok(())
+    }
+
+    #[test]
+    fn literals_suit_what_they_are_compared_with(rt: HostRuntime) -> Result<(), Fail> {
+        let alloc = rt.alloc();
+        let schema = schema(alloc)?;
+        let mut query = select(alloc, &[])?;
+        assert!(rt; body_cause(&schema, &query)?.is_none());
+        let pushed = query.conds.push(cond(alloc, "", Op::Eq, Lit::Num(1))?);
+        assert!(rt; pushed.is_ok());
+        let cause = body_cause(&schema, &query)?;
+        let is_mismatch = matches!(
+            &cause,
+            Some(Cause::TypeMismatch { column }) if column.as_slice() == b"tbname".as_slice()
+        );
+        assert!(rt; is_mismatch);
+        Ok(())
+    }
+}
