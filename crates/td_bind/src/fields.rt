@@ -50,10 +50,7 @@ fn part_kind(schema: &Schema, of: &PartBy) -> Option<Kind>
 {
     match of {
         PartBy::TbName => Some(TBNAME),
-        PartBy::Tag(name) => match field_named(schema, name) {
-            Some(column) => Some(column.kind),
-            None => None,
-        },
+        PartBy::Tag(name) => field_named(schema, name).map(|column| column.kind),
     }
 }
 

@@ -133,7 +133,7 @@ fn has_unknown(schema: &Schema, query: &Query) -> bool
         || is_order_unknown(schema, &query.order)
 }
 
-// The name that a cause has for TBNAME, in the place of a copy of another text.
+// The name that a cause has for TBNAME, in the memory of a copy of another text.
 fn tbname_after(text: &Name) -> Result<Name, NoMem>
     ensures { IfOk result (λ name. name ≡ tbname_column.name) }
 {
@@ -143,7 +143,8 @@ fn tbname_after(text: &Name) -> Result<Name, NoMem>
     Ok(name)
 }
 
-// Why a condition's literal doesn't suit what it is of, if it doesn't. `text` is any text.
+// That a condition's literal doesn't suit what the condition is of, if it doesn't. `text` is any text, whose allocator the
+// cause takes.
 fn mismatch_at(schema: &Schema, cond: &Cond, text: &Name) -> Result<Option<Cause>, NoMem>
     ensures { IfOk result (λ cause. cause ≡ mismatch_at (part_column schema.now cond.now.of) cond.now) }
 {
@@ -154,18 +155,14 @@ fn mismatch_at(schema: &Schema, cond: &Cond, text: &Name) -> Result<Option<Cause
             Ok(Some(Cause::TypeMismatch { column }))
         }
         PartBy::Tag(name) => {
-            let unsuited = field_named(schema, name).filter(|column| !suits(
-                column.kind,
-                0,
-                &cond.lit,
-            ));
-            let cause = mismatch_of(unsuited)?;
+            let field = field_named(schema, name);
+            let cause = mismatch_of(field.filter(|column| !suits(column.kind, 0, &cond.lit)))?;
             Ok(cause)
         }
     }
 }
 
-// Why the first literal of conditions that doesn't suit what it is of is refused, if one is.
+// That the literal of the first such condition doesn't suit, if there is one.
 fn mismatch_cause(schema: &Schema, conds: &[Cond], text: &Name) -> Result<Option<Cause>, NoMem>
     ensures { IfOk result (λ cause. cause ≡ mismatch_cause schema.now conds.now) }
 {
