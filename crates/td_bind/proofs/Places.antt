@@ -1,6 +1,6 @@
 -- The columns and then the tags of a schema as one list: the field of a name, and its place.
-use Rattle.std.proofs.Common.{◌≡◌, ℕ, suc, ◌+◌, ◌-◌, ◌<◌, ◌≤◌, Bool, true, false, cond, not, List, [], ◌∷◌, ◌++◌, length, Option, Some, None, position, nat_lt, nat_eq, refl, ap, sym, ◌∙◌, arith, add-one, length-append}
-use Rattle.std.specs.List.{position_or_len, prefix_len, find}
+use Rattle.std.proofs.Common.{◌≡◌, ℕ, suc, ◌+◌, ◌-◌, ◌<◌, ◌≤◌, cond, not, List, [], ◌∷◌, ◌++◌, length, Option, Some, None, position, nat_lt, nat_eq, ap, sym, ◌∙◌, arith, length-append}
+use Rattle.std.specs.List.{position_or_len}
 use Rattle.std.specs.Option.{option_map, option_or}
 use Rattle.std.proofs.lemmas.List.{append_assoc}
 use Rattle.std.proofs.lemmas.List.Folds.{find-append, prefix_len-append}

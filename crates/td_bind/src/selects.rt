@@ -1,5 +1,5 @@
 //! What a row query meets over the schema of its source.
-ghost use Rattle.std.specs.Prelude.{◌≡◌, [], IfOk};
+ghost use Rattle.std.specs.Prelude.{◌≡◌, IfOk};
 ghost use Rattle.std.specs.List.{list_any};
 ghost use Rattle.td_model.specs.declared.language.Item.{Item};
 ghost use Rattle.td_model.specs.declared.language.Cond.{Cond};
