@@ -4,3 +4,4 @@ pub mod Numbers
 pub mod PutsBySlots
 pub mod Follows
 pub mod Twice
+pub mod Places

@@ -14,7 +14,7 @@ use td_layer::{Copied, Name, NoMem, Seq};
 use td_model::{Cause, Column};
 
 // Adds copies of the columns' names.
-fn add_names(names: &mut Seq<Name>, columns: &[Column]) -> Result<(), NoMem>
+pub(crate) fn add_names(names: &mut Seq<Name>, columns: &[Column]) -> Result<(), NoMem>
     ensures { OnOk result (names.new ≡ names.old ++ names_of columns.now) }
 {
     for column in columns {

@@ -1,46 +1,261 @@
 //! Where the names of a query find the cells of a row.
-ghost use Rattle.std.specs.Prelude.{◌≡◌, IfOk};
-ghost use Rattle.td_verdict.specs.Fields.{comparisons_of};
-ghost use Rattle.td_verdict.specs.Answers.{shown_places, header_over};
+ghost use Rattle.std.specs.Prelude.{◌≡◌, length, map, IfOk};
+ghost use Rattle.std.specs.List.{filter_map};
+ghost use Rattle.std.specs.Option.{option_copied, option_map};
+ghost use Rattle.td_model.specs.declared.catalog.Column.{Column};
+ghost use Rattle.td_model.specs.declared.language.Item.{Item};
+ghost use Rattle.td_verdict.specs.Names.{column_named, names_of};
+ghost use Rattle.td_verdict.specs.Fields.{fields, place_in, part_column, part_place, operand_of, comparison_of, comparisons_of};
+ghost use Rattle.td_verdict.specs.Answers.{places_from, star_fields, item_place, shown_places, item_text, item_title, header_over};
 
+use crate::columns::add_names;
+use crate::insert::column_named;
+use crate::slots::place_of;
+use crate::values::{number_at, text_at};
 use std::alloc::Global;
-use td_layer::{Name, NoMem, Seq};
-use td_model::{Cond, Query, Schema};
+use td_layer::{Cell, Copied, Name, NoMem, Seq};
+use td_model::{Column, Cond, Item, ItemKind, Kind, Lit, PartBy, Query, Schema};
 use td_verdict::Comparison;
+
+/// TBNAME is compared as a text of at most 192 bytes.
+pub(crate) const TBNAME: Kind = Kind::Text(192);
+
+// The column or tag of a name.
+#[tactic(auto, using(crate::proofs::Places::named_column, crate::proofs::Places::named_tag))]
+pub(crate) fn field_named<'a>(schema: &'a Schema, name: &Name) -> Option<&'a Column>
+    ensures { option_copied result ≡ column_named (fields schema.now) name.now }
+{
+    match column_named(schema.columns.as_slice(), name) {
+        Some(column) => Some(column),
+        None => column_named(schema.tags.as_slice(), name),
+    }
+}
+
+// The place of the column or tag of a name among a row's cells.
+#[tactic(auto, using(crate::proofs::Places::place_of_column, crate::proofs::Places::place_of_tag, crate::proofs::Places::place_of_none))]
+fn place_in(schema: &Schema, name: &Name) -> Option<usize>
+    ensures { result ≡ place_in schema.now name.now }
+{
+    let columns = schema.columns.as_slice();
+    if let Some(i) = place_of(columns, name) {
+        return Some(i + 1);
+    }
+    let i = place_of(schema.tags.as_slice(), name)?;
+    Some(columns.len() + i + 1)
+}
+
+// The kind of what a condition is of.
+fn part_kind(schema: &Schema, of: &PartBy) -> Option<Kind>
+    ensures { result ≡ option_map (λ (c : Column). c.kind) (part_column schema.now of.now) }
+{
+    match of {
+        PartBy::TbName => Some(TBNAME),
+        PartBy::Tag(name) => field_named(schema, name).map(|column| column.kind),
+    }
+}
+
+// The place of what a condition is of.
+fn part_place(schema: &Schema, of: &PartBy) -> Option<usize>
+    ensures { result ≡ part_place schema.now of.now }
+{
+    match of {
+        PartBy::TbName => Some(0),
+        PartBy::Tag(name) => place_in(schema, name),
+    }
+}
+
+// The cell that a literal is compared as.
+fn operand_of(kind: Kind, lit: &Lit) -> Result<Cell, NoMem>
+    ensures { IfOk result (λ cell. cell ≡ operand_of kind lit.now) }
+{
+    if let Some(n) = number_at(kind, 0, lit) {
+        return Ok(Cell::Num(n));
+    }
+    match text_at(kind, lit) {
+        Some(text) => {
+            let text = text.copy()?;
+            Ok(Cell::Str(text))
+        }
+        None => Ok(Cell::Null),
+    }
+}
+
+// A condition as a comparison, if its name is known.
+fn comparison_of(schema: &Schema, cond: &Cond) -> Result<Option<Comparison>, NoMem>
+    ensures { IfOk result (λ comparison. comparison ≡ comparison_of schema.now cond.now) }
+{
+    let Some(kind) = part_kind(schema, &cond.of) else {
+        return Ok(None);
+    };
+    let Some(place) = part_place(schema, &cond.of) else {
+        return Ok(None);
+    };
+    let operand = operand_of(kind, &cond.lit)?;
+    Ok(Some(Comparison {
+        place,
+        op: cond.op,
+        operand,
+    }))
+}
 
 /// The conditions of a query over a schema as comparisons of a row's cells. A condition of a name that the schema doesn't have
 /// gives none.
-pub fn comparisons(
-    alloc: Global,
-    _schema: &Schema,
-    _conds: &[Cond],
-) -> Result<Seq<Comparison>, NoMem>
-    ensures { IfOk result (λ all. all ≡ comparisons_of _schema.now _conds.now) }
+pub fn comparisons(alloc: Global, schema: &Schema, conds: &[Cond]) -> Result<Seq<Comparison>, NoMem>
+    ensures { IfOk result (λ all. all ≡ comparisons_of schema.now conds.now) }
 {
-    Err(NoMem)
+    let mut all = Seq::new(alloc);
+    for cond in conds {
+        let comparison = comparison_of(schema, cond)?;
+        if let Some(comparison) = comparison {
+            if all.push(comparison).is_err() {
+                return Err(NoMem);
+            }
+        }
+    }
+    Ok(all)
+}
+
+// The places of a row's first cells behind its table's name.
+#[tactic(auto, using(crate::proofs::Places::one_place))]
+fn first_places(alloc: Global, count: usize) -> Result<Seq<usize>, NoMem>
+    ensures { IfOk result (λ places. places ≡ places_from 1 count) }
+{
+    let mut places = Seq::new(alloc);
+    for i in 0..count {
+        if places.push(i + 1).is_err() {
+            return Err(NoMem);
+        }
+    }
+    Ok(places)
+}
+
+// The place of the cell that an item shows.
+fn item_place(schema: &Schema, what: &ItemKind) -> Option<usize>
+    ensures { result ≡ item_place schema.now what.now }
+{
+    match what {
+        ItemKind::TbName => Some(0),
+        ItemKind::Col(name) => place_in(schema, name),
+        _ => None,
+    }
+}
+
+// The places of the cells that the items of a select list show.
+fn item_places(alloc: Global, schema: &Schema, items: &[Item]) -> Result<Seq<usize>, NoMem>
+    ensures { IfOk result (λ places. places ≡ filter_map (λ (i : Item). item_place schema.now i.what) items.now) }
+{
+    let mut places = Seq::new(alloc);
+    for item in items {
+        if let Some(place) = item_place(schema, &item.what) {
+            if places.push(place).is_err() {
+                return Err(NoMem);
+            }
+        }
+    }
+    Ok(places)
+}
+
+// How many cells `*` shows of a row.
+fn star_count(is_table: bool, schema: &Schema) -> usize
+    ensures { result ≡ length (star_fields is_table schema.now) }
+{
+    if is_table {
+        schema.columns.len()
+    } else {
+        schema.columns.as_slice().len() + schema.tags.as_slice().len()
+    }
 }
 
 /// The places of the cells that a query over a schema shows of a row, in the order of its select list. `*` shows the columns
 /// of a table, and of a supertable its columns and then its tags.
 pub fn shown_places(
     alloc: Global,
-    _is_table: bool,
-    _schema: &Schema,
-    _query: &Query,
+    is_table: bool,
+    schema: &Schema,
+    query: &Query,
 ) -> Result<Seq<usize>, NoMem>
-    ensures { IfOk result (λ places. places ≡ shown_places _is_table _schema.now _query.now) }
+    ensures { IfOk result (λ places. places ≡ shown_places is_table schema.now query.now) }
 {
-    Err(NoMem)
+    if query.star {
+        let places = first_places(alloc, star_count(is_table, schema))?;
+        return Ok(places);
+    }
+    let places = item_places(alloc, schema, query.items.as_slice())?;
+    Ok(places)
+}
+
+// The names of what `*` shows of a row.
+fn star_names(alloc: Global, is_table: bool, schema: &Schema) -> Result<Seq<Name>, NoMem>
+    ensures { IfOk result (λ names. names ≡ names_of (star_fields is_table schema.now)) }
+{
+    let mut names = Seq::new(alloc);
+    add_names(&mut names, schema.columns.as_slice())?;
+    if !is_table {
+        add_names(&mut names, schema.tags.as_slice())?;
+    }
+    Ok(names)
+}
+
+// The name of an item.
+fn item_text(alloc: Global, what: &ItemKind) -> Result<Name, NoMem>
+    ensures { IfOk result (λ name. name ≡ item_text what.now) }
+{
+    match what {
+        ItemKind::TbName => {
+            let name = Seq::of_bytes(alloc, b"TBNAME")?;
+            Ok(name)
+        }
+        ItemKind::Col(name) => {
+            let name = name.copy()?;
+            Ok(name)
+        }
+        _ => Ok(Seq::new(alloc)),
+    }
+}
+
+// An item's alias, or else its name.
+fn item_title(alloc: Global, item: &Item) -> Result<Name, NoMem>
+    ensures { IfOk result (λ title. title ≡ item_title item.now) }
+{
+    match &item.alias {
+        Some(alias) => {
+            let title = alias.copy()?;
+            Ok(title)
+        }
+        None => {
+            let title = item_text(alloc, &item.what)?;
+            Ok(title)
+        }
+    }
+}
+
+// The titles of the items of a select list.
+fn item_titles(alloc: Global, items: &[Item]) -> Result<Seq<Name>, NoMem>
+    ensures { IfOk result (λ titles. titles ≡ map item_title items.now) }
+{
+    let mut titles = Seq::new(alloc);
+    for item in items {
+        let title = item_title(alloc, item)?;
+        if titles.push(title).is_err() {
+            return Err(NoMem);
+        }
+    }
+    Ok(titles)
 }
 
 /// The header of a query's answer over a schema: of each item its alias, or else its name.
 pub fn header(
     alloc: Global,
-    _is_table: bool,
-    _schema: &Schema,
-    _query: &Query,
+    is_table: bool,
+    schema: &Schema,
+    query: &Query,
 ) -> Result<Seq<Name>, NoMem>
-    ensures { IfOk result (λ names. names ≡ header_over _is_table _schema.now _query.now) }
+    ensures { IfOk result (λ names. names ≡ header_over is_table schema.now query.now) }
 {
-    Err(NoMem)
+    if query.star {
+        let names = star_names(alloc, is_table, schema)?;
+        return Ok(names);
+    }
+    let names = item_titles(alloc, query.items.as_slice())?;
+    Ok(names)
 }

@@ -23,7 +23,7 @@ const MOST_ROWS: usize = 16_384;
 const DAY_RANGE: i128 = 864_000_000;
 
 // The column of a name.
-fn column_named<'a>(columns: &'a [Column], name: &Name) -> Option<&'a Column>
+pub(crate) fn column_named<'a>(columns: &'a [Column], name: &Name) -> Option<&'a Column>
     ensures { option_copied result ≡ column_named columns.now name.now }
 {
     columns.iter().find(|column| same(&column.name, name))

@@ -20,6 +20,7 @@ mod names;
 mod query;
 mod remove;
 mod seen;
+mod selects;
 mod slots;
 mod subtables;
 mod values;

@@ -21,7 +21,7 @@ pub(crate) struct Slot {
 }
 
 // The place of the column of a name.
-fn place_of(places: &[Column], name: &Name) -> Option<usize>
+pub(crate) fn place_of(places: &[Column], name: &Name) -> Option<usize>
     ensures { result ≡ place_of places.now name.now }
 {
     places.iter().position(|column| same(&column.name, name))

@@ -73,7 +73,7 @@ pub(crate) fn number_at(kind: Kind, moment: u64, lit: &Lit) -> Option<i128>
 }
 
 // The text that a literal says.
-fn text_at(kind: Kind, lit: &Lit) -> Option<&Name>
+pub(crate) fn text_at(kind: Kind, lit: &Lit) -> Option<&Name>
     ensures { option_copied result ≡ text_at kind lit.now }
 {
     match lit {

@@ -1,0 +1,239 @@
+//! What a row query meets over the schema of its source.
+ghost use Rattle.std.specs.Prelude.{◌≡◌, IfOk};
+ghost use Rattle.std.specs.List.{list_any};
+ghost use Rattle.td_model.specs.declared.language.Item.{Item};
+ghost use Rattle.td_model.specs.declared.language.Cond.{Cond};
+ghost use Rattle.td_verdict.specs.Fields.{part_column, tbname_column};
+ghost use Rattle.td_verdict.specs.Streams.{is_whole, is_plain};
+ghost use Rattle.td_verdict.specs.Queries.{is_aggregate, is_row_query, reads_all, target_cause, is_unknown, is_item_unknown, is_part_unknown, is_window_start, is_order_unknown, has_unknown, mismatch_at, mismatch_cause, needs_window, is_order_other, is_bad_selection, is_count, is_bad_limit, body_cause};
+
+use crate::columns::mismatch_of;
+use crate::fields::{TBNAME, field_named};
+use crate::names::is_first;
+use crate::values::suits;
+use td_layer::{Copied, Name, NoMem};
+use td_model::{Cause, Column, Cond, Item, ItemKind, OrderBy, PartBy, Query, Schema, WindowDef};
+
+/// The greatest count of rows of LIMIT or OFFSET.
+const MOST_ROWS: i128 = 4_294_967_295;
+
+fn is_aggregate(what: &ItemKind) -> bool
+    ensures { result ≡ is_aggregate what.now }
+{
+    matches!(what, ItemKind::CountAll | ItemKind::Fun(..))
+}
+
+// Whether an item of a select list is an aggregate.
+fn has_aggregate(items: &[Item]) -> bool
+    ensures { result ≡ list_any (λ (i : Item). is_aggregate i.what) items.now }
+{
+    items.iter().any(|item| is_aggregate(&item.what))
+}
+
+fn is_whole(window: &WindowDef) -> bool
+    ensures { result ≡ is_whole window.now }
+{
+    matches!(window, WindowDef::Whole)
+}
+
+fn is_plain(order: &OrderBy) -> bool
+    ensures { result ≡ is_plain order.now }
+{
+    matches!(order, OrderBy::Plain)
+}
+
+// Whether a query is a SELECT without aggregate, window and PARTITION BY.
+pub(crate) fn is_row_query(query: &Query) -> bool
+    ensures { result ≡ is_row_query query.now }
+{
+    !has_aggregate(query.items.as_slice()) && is_whole(&query.window) && query.parts.is_empty()
+}
+
+// Whether a query is `SELECT *` with an optional LIMIT alone.
+fn reads_all(query: &Query) -> bool
+    ensures { result ≡ reads_all query.now }
+{
+    query.star && query.conds.is_empty() && is_plain(&query.order) && query.skip == 0
+}
+
+// Why a query of a stream's target is refused.
+pub(crate) fn target_cause(query: &Query) -> Cause
+    ensures { result ≡ target_cause query.now }
+{
+    if reads_all(query) {
+        Cause::OptionNotBuilt
+    } else {
+        Cause::TargetOfStream
+    }
+}
+
+// Whether a name is no column or tag.
+fn is_unknown(schema: &Schema, name: &Name) -> bool
+    ensures { result ≡ is_unknown schema.now name.now }
+{
+    field_named(schema, name).is_none()
+}
+
+fn is_item_unknown(schema: &Schema, what: &ItemKind) -> bool
+    ensures { result ≡ is_item_unknown schema.now what.now }
+{
+    match what {
+        ItemKind::Col(name) => is_unknown(schema, name),
+        _ => false,
+    }
+}
+
+fn is_part_unknown(schema: &Schema, of: &PartBy) -> bool
+    ensures { result ≡ is_part_unknown schema.now of.now }
+{
+    match of {
+        PartBy::Tag(name) => is_unknown(schema, name),
+        PartBy::TbName => false,
+    }
+}
+
+// Whether a name is the word of ORDER BY for a window's start.
+fn is_window_start(name: &Name) -> bool
+    ensures { result ≡ is_window_start name.now }
+{
+    name.as_slice() == b"_wstart".as_slice()
+}
+
+fn is_order_unknown(schema: &Schema, order: &OrderBy) -> bool
+    ensures { result ≡ is_order_unknown schema.now order.now }
+{
+    match order {
+        OrderBy::Plain => false,
+        OrderBy::Asc(name) | OrderBy::Desc(name) => {
+            !is_window_start(name) && is_unknown(schema, name)
+        }
+    }
+}
+
+// Whether a select list has a name that is no column or tag.
+fn selects_unknown(schema: &Schema, items: &[Item]) -> bool
+    ensures { result ≡ list_any (λ (i : Item). is_item_unknown schema.now i.what) items.now }
+{
+    items.iter().any(|item| is_item_unknown(schema, &item.what))
+}
+
+// Whether a condition is of a name that is no column or tag.
+fn compares_unknown(schema: &Schema, conds: &[Cond]) -> bool
+    ensures { result ≡ list_any (λ (c : Cond). is_part_unknown schema.now c.of) conds.now }
+{
+    conds.iter().any(|cond| is_part_unknown(schema, &cond.of))
+}
+
+// Whether a query has a name that is no column or tag.
+fn has_unknown(schema: &Schema, query: &Query) -> bool
+    ensures { result ≡ has_unknown schema.now query.now }
+{
+    selects_unknown(schema, query.items.as_slice())
+        || compares_unknown(schema, query.conds.as_slice())
+        || is_order_unknown(schema, &query.order)
+}
+
+// The name that a cause has for TBNAME, in the memory of a copy of another text.
+fn tbname_after(text: &Name) -> Result<Name, NoMem>
+    ensures { IfOk result (λ name. name ≡ tbname_column.name) }
+{
+    let mut name = text.copy()?;
+    while name.pop().is_some() {}
+    name.extend(b"tbname")?;
+    Ok(name)
+}
+
+// That a condition's literal doesn't suit what the condition is of, if it doesn't. `text` is any text, whose allocator the
+// cause takes.
+fn mismatch_at(schema: &Schema, cond: &Cond, text: &Name) -> Result<Option<Cause>, NoMem>
+    ensures { IfOk result (λ cause. cause ≡ mismatch_at (part_column schema.now cond.now.of) cond.now) }
+{
+    match &cond.of {
+        PartBy::TbName if suits(TBNAME, 0, &cond.lit) => Ok(None),
+        PartBy::TbName => {
+            let column = tbname_after(text)?;
+            Ok(Some(Cause::TypeMismatch { column }))
+        }
+        PartBy::Tag(name) => {
+            let field = field_named(schema, name);
+            let cause = mismatch_of(field.filter(|column| !suits(column.kind, 0, &cond.lit)))?;
+            Ok(cause)
+        }
+    }
+}
+
+// That the literal of the first such condition doesn't suit, if there is one.
+fn mismatch_cause(schema: &Schema, conds: &[Cond], text: &Name) -> Result<Option<Cause>, NoMem>
+    ensures { IfOk result (λ cause. cause ≡ mismatch_cause schema.now conds.now) }
+{
+    for cond in conds {
+        let cause = mismatch_at(schema, cond, text)?;
+        if cause.is_some() {
+            return Ok(cause);
+        }
+    }
+    Ok(None)
+}
+
+fn needs_window(what: &ItemKind) -> bool
+    ensures { result ≡ needs_window what.now }
+{
+    matches!(what, ItemKind::WStart | ItemKind::WEnd)
+}
+
+// Whether an item of a select list needs a window.
+fn selects_window(items: &[Item]) -> bool
+    ensures { result ≡ list_any (λ (i : Item). needs_window i.what) items.now }
+{
+    items.iter().any(|item| needs_window(&item.what))
+}
+
+// Whether the order is by another thing than the first column.
+fn is_order_other(columns: &[Column], order: &OrderBy) -> bool
+    ensures { result ≡ is_order_other columns.now order.now }
+{
+    match order {
+        OrderBy::Plain => false,
+        OrderBy::Asc(name) | OrderBy::Desc(name) => !is_first(columns, name),
+    }
+}
+
+fn is_bad_selection(schema: &Schema, query: &Query) -> bool
+    ensures { result ≡ is_bad_selection schema.now query.now }
+{
+    selects_window(query.items.as_slice())
+        || is_order_other(schema.columns.as_slice(), &query.order)
+}
+
+// Whether a number is a count of rows.
+fn is_count(n: i128) -> bool
+    ensures { result ≡ is_count n }
+{
+    0 <= n && n <= MOST_ROWS
+}
+
+fn is_bad_limit(query: &Query) -> bool
+    ensures { result ≡ is_bad_limit query.now }
+{
+    !is_count(query.skip) || query.limit.is_some_and(|n| !is_count(n))
+}
+
+// Why a query over the schema of its source is refused, if it is.
+pub(crate) fn body_cause(schema: &Schema, query: &Query) -> Result<Option<Cause>, NoMem>
+    ensures { IfOk result (λ cause. cause ≡ body_cause schema.now query.now) }
+{
+    if has_unknown(schema, query) {
+        return Ok(Some(Cause::UnknownColumn));
+    }
+    let mismatch = mismatch_cause(schema, query.conds.as_slice(), &query.source)?;
+    if mismatch.is_some() {
+        return Ok(mismatch);
+    }
+    if is_bad_selection(schema, query) {
+        return Ok(Some(Cause::BadSelect));
+    }
+    if is_bad_limit(query) {
+        return Ok(Some(Cause::BadLimit));
+    }
+    Ok(None)
+}
