@@ -11,7 +11,8 @@ use crate::columns::mismatch_of;
 use crate::fields::{TBNAME, field_named};
 use crate::names::is_first;
 use crate::values::suits;
-use td_layer::{Copied, Name, NoMem};
+use std::alloc::Global;
+use td_layer::{Name, NoMem, Seq};
 use td_model::{Cause, Column, Cond, Item, ItemKind, OrderBy, PartBy, Query, Schema, WindowDef};
 
 /// The greatest count of rows of LIMIT or OFFSET.
@@ -133,26 +134,23 @@ fn has_unknown(schema: &Schema, query: &Query) -> bool
         || is_order_unknown(schema, &query.order)
 }
 
-// The name that a cause has for TBNAME, in the memory of a copy of another text.
-fn tbname_after(text: &Name) -> Result<Name, NoMem>
-    ensures { IfOk result (λ name. name ≡ tbname_column.name) }
+// That a literal doesn't suit TBNAME.
+fn tbname_mismatch(alloc: Global) -> Result<Cause, NoMem>
+    ensures { IfOk result (λ cause. cause ≡ Cause.TypeMismatch tbname_column.name) }
 {
-    let mut name = text.copy()?;
-    while name.pop().is_some() {}
-    name.extend(b"tbname")?;
-    Ok(name)
+    let column = Seq::of_bytes(alloc, b"tbname")?;
+    Ok(Cause::TypeMismatch { column })
 }
 
-// That a condition's literal doesn't suit what the condition is of, if it doesn't. `text` is any text, whose allocator the
-// cause takes.
-fn mismatch_at(schema: &Schema, cond: &Cond, text: &Name) -> Result<Option<Cause>, NoMem>
+// That a condition's literal doesn't suit what the condition is of, if it doesn't.
+fn mismatch_at(alloc: Global, schema: &Schema, cond: &Cond) -> Result<Option<Cause>, NoMem>
     ensures { IfOk result (λ cause. cause ≡ mismatch_at (part_column schema.now cond.now.of) cond.now) }
 {
     match &cond.of {
         PartBy::TbName if suits(TBNAME, 0, &cond.lit) => Ok(None),
         PartBy::TbName => {
-            let column = tbname_after(text)?;
-            Ok(Some(Cause::TypeMismatch { column }))
+            let cause = tbname_mismatch(alloc)?;
+            Ok(Some(cause))
         }
         PartBy::Tag(name) => {
             let field = field_named(schema, name);
@@ -163,11 +161,11 @@ fn mismatch_at(schema: &Schema, cond: &Cond, text: &Name) -> Result<Option<Cause
 }
 
 // That the literal of the first such condition doesn't suit, if there is one.
-fn mismatch_cause(schema: &Schema, conds: &[Cond], text: &Name) -> Result<Option<Cause>, NoMem>
+fn mismatch_cause(alloc: Global, schema: &Schema, conds: &[Cond]) -> Result<Option<Cause>, NoMem>
     ensures { IfOk result (λ cause. cause ≡ mismatch_cause schema.now conds.now) }
 {
     for cond in conds {
-        let cause = mismatch_at(schema, cond, text)?;
+        let cause = mismatch_at(alloc, schema, cond)?;
         if cause.is_some() {
             return Ok(cause);
         }
@@ -219,13 +217,17 @@ fn is_bad_limit(query: &Query) -> bool
 }
 
 // Why a query over the schema of its source is refused, if it is.
-pub(crate) fn body_cause(schema: &Schema, query: &Query) -> Result<Option<Cause>, NoMem>
+pub(crate) fn body_cause(
+    alloc: Global,
+    schema: &Schema,
+    query: &Query,
+) -> Result<Option<Cause>, NoMem>
     ensures { IfOk result (λ cause. cause ≡ body_cause schema.now query.now) }
 {
     if has_unknown(schema, query) {
         return Ok(Some(Cause::UnknownColumn));
     }
-    let mismatch = mismatch_cause(schema, query.conds.as_slice(), &query.source)?;
+    let mismatch = mismatch_cause(alloc, schema, query.conds.as_slice())?;
     if mismatch.is_some() {
         return Ok(mismatch);
     }

@@ -333,7 +333,7 @@ mod fields {
     fn met(alloc: Global, of: &[(&str, Option<i128>)]) -> Result<&'static str, NoMem> {
         let schema = schema(alloc)?;
         let query = select(alloc, Seq::new(alloc), conds(alloc, of)?);
-        let cause = body_cause(&schema, &query)?;
+        let cause = body_cause(alloc, &schema, &query)?;
         Ok(cause.as_ref().map_or("no cause", told))
     }
 

@@ -13,3 +13,7 @@ mod latest;
 mod tables;
 
 pub use tables::{Tables, Turn};
+pub use td_rows::{ListedRows, OrderedRows, RowMap};
+
+#[cfg(test)]
+mod tests;
