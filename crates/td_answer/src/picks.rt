@@ -1,9 +1,8 @@
 //! The rows of a plan's tables of which all comparisons are true, by timestamp and then by table.
 ghost use Rattle.std.specs.Prelude.{◌≡◌, map, slice_get, IfOk, OnOk};
-ghost use Rattle.std.specs.BTreeMap.{insert_entry};
 ghost use Rattle.std.specs.Option.{option_map};
-ghost use Rattle.td_verdict.specs.Answers.{time_cmp, put_in_time, ordered};
-ghost use Rattle.td_answer.specs.Picks.{key_of, keyed, put_held, span_of, listed, tables_of, row_found, found_of, table_found, plan_found};
+ghost use Rattle.td_verdict.specs.Answers.{put_in_time, ordered};
+ghost use Rattle.td_answer.specs.Picks.{key_of, keyed, put_held, span_of, listed, tables_of, found_of, table_found, plan_found};
 
 use crate::cells::{all_hold, row_cells};
 use crate::shown::is_desc;

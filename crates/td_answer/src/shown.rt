@@ -1,5 +1,5 @@
 //! What is shown of the rows that were picked.
-ghost use Rattle.std.specs.Prelude.{◌≡◌, ◌≤◌, min, map, length, take, IfOk};
+ghost use Rattle.std.specs.Prelude.{◌≡◌, min, IfOk};
 ghost use Rattle.td_verdict.specs.Answers.{shown, is_desc, count_from, limited, cut};
 ghost use Rattle.td_answer.specs.Shown.{cell_in, shown_all};
 
