@@ -1,82 +1,17 @@
 //! Answers over the rows of two subtables of `meters` (ts, voltage; location, groupid) and of a table (ts, on):
 //! d1 ('a', 2) has 219 at 5 and NULL at 15, d2 (NULL, 3) has 220 at 4 and 221 at 15, and e has TRUE at 7.
-ghost use Rattle.std.specs.Prelude.{◌≡◌};
-ghost use Rattle.td_rows.specs.Puts.{lies_in};
-
 use crate::answer;
 use std::alloc::Global;
 use std::test::Fail;
-use td_layer::{Birth, Cell, Copied, Key, Name, NoMem, Row, Seq, Value};
+use td_layer::{Cell, Key, Name, NoMem, Seq, Value};
 use td_model::{Column, Kind, Op, OrderBy, Plan, Put, Query, Schema, WindowDef};
-use td_rows::RowMap;
+use td_rows::{ListedRows, RowMap};
 use td_verdict::Comparison;
 
 const LAST: u64 = 253_402_300_799_999;
 
-// Rows in a list, in the order of their keys, to which none can be added.
-#[derive(Drop)]
-struct FixedRows {
-    rows: Vec<(Key, Row)>,
-}
-
-// Whether a key lies in a table's range of timestamps.
-fn lies_in(table: u32, lo: u64, hi: Option<u64>, key: &Key) -> bool
-    ensures { result ≡ lies_in table lo hi key.now }
-{
-    let is_to = match hi {
-        None => true,
-        Some(hi) => key.ts <= hi,
-    };
-    key.table == table && (lo <= key.ts && is_to)
-}
-
-impl RowMap for FixedRows {
-    ghost rows = { λ m. m.rows.items };
-
-    fn row(&self, key: &Key) -> Option<&Row> {
-        for entry in &self.rows {
-            if key.cmp(&entry.0).is_eq() {
-                return Some(&entry.1);
-            }
-        }
-        None
-    }
-
-    fn put_all(&mut self, _moment: u64, _puts: &[Put]) -> Result<(), NoMem> {
-        Err(NoMem)
-    }
-
-    fn cut(&mut self, table: u32, lo: u64, hi: u64) {
-        self.rows
-            .retain(|entry| !lies_in(table, lo, Some(hi), &entry.0));
-    }
-
-    fn keep_from(&mut self, ts: u64) {
-        self.rows.retain(|entry| ts <= entry.0.ts);
-    }
-
-    fn rows_of(
-        &self,
-        alloc: Global,
-        table: u32,
-        lo: u64,
-        hi: Option<u64>,
-    ) -> Result<Seq<(u64, Row)>, NoMem> {
-        let mut all = Seq::new(alloc);
-        for entry in &self.rows {
-            if lies_in(table, lo, hi, &entry.0) {
-                let row = entry.1.copy()?;
-                if all.push((entry.0.ts, row)).is_err() {
-                    return Err(NoMem);
-                }
-            }
-        }
-        Ok(all)
-    }
-}
-
-fn fixed_rows(alloc: Global) -> Result<FixedRows, Fail> {
-    let mut rows = Vec::new(alloc);
+fn kept_rows(alloc: Global) -> Result<ListedRows, Fail> {
+    let mut puts = Vec::new(alloc);
     for (table, ts, value) in [
         (1, 5, Value::Num(219)),
         (1, 15, Value::Null),
@@ -84,13 +19,13 @@ fn fixed_rows(alloc: Global) -> Result<FixedRows, Fail> {
         (2, 15, Value::Num(221)),
         (3, 7, Value::Num(1)),
     ] {
-        let row = Row {
-            birth: Birth { born: 9 },
-            values: Seq::from_vec(alloc, vec![in alloc; value]?),
-        };
-        rows.push((Key { table, ts }, row))?;
+        let cells = Seq::from_vec(alloc, vec![in alloc; Some(value)]?);
+        let key = Key { table, ts };
+        puts.push(Put { key, cells })?;
     }
-    Ok(FixedRows { rows })
+    let mut rows = ListedRows::new(alloc);
+    rows.put_all(9, puts.as_slice())?;
+    Ok(rows)
 }
 
 fn name(alloc: Global, text: &str) -> Result<Name, NoMem> {
@@ -224,7 +159,7 @@ fn told(alloc: Global, rows: &[Seq<Cell>]) -> Result<String, Fail> {
 // What is shown of a query.
 fn shown(
     alloc: Global,
-    rows: &FixedRows,
+    rows: &ListedRows,
     tables: &[u32],
     (comparison, range): Where,
     cut: Cut,
@@ -239,7 +174,7 @@ fn shown(
 #[test]
 fn answers(rt: HostRuntime) -> Result<(), Fail> {
     let alloc = rt.alloc();
-    let rows = fixed_rows(alloc)?;
+    let rows = kept_rows(alloc)?;
     let both: &[u32] = &[1, 2];
     let first: &[usize] = &[0, 1];
     for (tables, of, cut, places, wanted) in [
