@@ -4,3 +4,5 @@ pub mod Numbers
 pub mod PutsBySlots
 pub mod Follows
 pub mod Twice
+pub mod Filters
+pub mod ByNumber

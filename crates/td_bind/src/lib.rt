@@ -20,8 +20,10 @@ mod names;
 mod query;
 mod remove;
 mod seen;
+mod selects;
 mod slots;
 mod subtables;
+mod tables;
 mod values;
 mod write;
 

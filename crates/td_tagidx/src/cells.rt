@@ -85,8 +85,8 @@ fn cell_matches(op: Op, a: &Cell, b: &Cell) -> bool
     }
 }
 
-// Whether there is a tag at a place, and it passes a comparison.
-pub(crate) fn tag_matches(tags: &Seq<Cell>, tag: usize, op: Op, lit: &Cell) -> bool
+/// Whether there is a tag at a place, and it passes a comparison.
+pub fn tag_matches(tags: &Seq<Cell>, tag: usize, op: Op, lit: &Cell) -> bool
     ensures { result ≡ tag_matches tag op lit.now tags.now }
 {
     match tags.get(tag) {

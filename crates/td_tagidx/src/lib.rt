@@ -16,4 +16,5 @@ mod slots;
 #[cfg(test)]
 mod tests;
 
+pub use cells::tag_matches;
 pub use index::{TagChange, TagIndex};
