@@ -6,3 +6,4 @@ pub mod Follows
 pub mod Twice
 pub mod Filters
 pub mod ByNumber
+pub mod Planned

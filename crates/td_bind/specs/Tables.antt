@@ -5,9 +5,13 @@ use Rattle.std.specs.List.{find, All}
 use Rattle.std.specs.Option.{option_map_or}
 use Rattle.td_layer.specs.declared.values.Cell.{Cell}
 use Rattle.td_model.specs.declared.catalog.TableDef.{TableDef}
+use Rattle.td_model.specs.declared.catalog.Schema.{Schema}
+use Rattle.td_model.specs.declared.language.Query.{Query}
+use Rattle.td_model.specs.declared.plan.Plan.{Plan}
 use Rattle.td_model.specs.Catalog.{Catalog, stable_named, table_named, table_at}
 use Rattle.td_verdict.specs.declared.comparison.Comparison.{Comparison}
-use Rattle.td_verdict.specs.Plans.{Numbered, all_tables, all_hold_of_tags}
+use Rattle.td_verdict.specs.Plans.{Numbered, all_tables, all_hold_of_tags, plan_over}
+use Rattle.td_verdict.specs.Fields.{comparisons_of}
 use Rattle.td_bind.specs.declared.tables.Named.{Named}
 use Rattle.td_bind.specs.declared.tables.Named.TheVariants.{Table, Stable}
 use Rattle.td_catalog.specs.Kept.{IsNumbered}
@@ -39,7 +43,11 @@ is_of (Stable n) e = is_under n e.1
 abbrev pub left_of : Named → ℕ → List Comparison → Catalog → List Numbered
 left_of named columns ps c = filter (λ (e : Numbered). all_hold_of_tags columns ps e.1.tags) (filter (is_of named) (all_tables c))
 
--- the numbers, the tags and the names of tables
+-- the plan of a query over what its source's name names
+abbrev pub plan_by : Query → Named → Schema → Catalog → Plan
+plan_by q named s c = plan_over q s (left_of named (length s.columns) (comparisons_of s q.conds) c) (comparisons_of s q.conds)
+
+-- the numbers of tables
 abbrev pub numbers_of : List Numbered → List ℕ
 numbers_of tables = map (λ (e : Numbered). e.0) tables
 
