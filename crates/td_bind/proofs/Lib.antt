@@ -5,3 +5,6 @@ pub mod PutsBySlots
 pub mod Follows
 pub mod Twice
 pub mod Places
+pub mod Filters
+pub mod ByNumber
+pub mod Planned

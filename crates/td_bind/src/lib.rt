@@ -23,6 +23,7 @@ mod seen;
 mod selects;
 mod slots;
 mod subtables;
+mod tables;
 mod values;
 mod write;
 

@@ -1,0 +1,237 @@
+-- The tables of a catalog by number, and those that a query reads, found in two ways.
+use Rattle.std.proofs.Common.{inl, inr, option_map, ◌≡◌, ℕ, suc, ◌+◌, ◌-◌, ◌<◌, ◌≤◌, ◌==◌, ◌⊎◌, Bool, true, false, cond, ◌&&◌, List, [], ◌∷◌, ◌++◌, map, append-nil, map-id, filter, length, slice_get, Option, Some, None, is_some, refl, sym, ap, subst, ◌∙◌, arith, All, nat_lt}
+use Rattle.std.specs.Prelude.{⊤}
+use Rattle.std.specs.List.{AllByRecursion, range_with_len, find}
+use Rattle.std.specs.Option.{option_map_or}
+use Rattle.std.proofs.lemmas.Bool.Decides.{nat_tests}
+use Rattle.std.proofs.lemmas.Option.{same_Some}
+use Rattle.std.proofs.lemmas.List.FromFn.{filter_of_map_range_with_len_more}
+use Rattle.std.proofs.lemmas.Bool.{eq-eqb, ne_eqb, cases_eq, and_parts}
+use Rattle.std.proofs.lemmas.List.Elements.{All-from_recursion, All-map}
+use Rattle.td_layer.specs.declared.values.Cell.{Cell}
+use Rattle.td_model.specs.declared.catalog.TableDef.{TableDef}
+use Rattle.td_model.specs.declared.language.Op.{Op}
+use Rattle.td_model.specs.Catalog.{Catalog, table_at}
+use Rattle.td_model.specs.Tags.{matching, tag_matches}
+use Rattle.td_catalog.specs.Kept.{IsNumbered}
+use Rattle.td_verdict.specs.declared.comparison.Comparison.{Comparison}
+use Rattle.td_verdict.specs.Plans.{Numbered, numbered, all_tables, subtables_of, holds_of_tags, all_hold_of_tags}
+use Rattle.td_bind.specs.declared.tables.Named.{Named}
+use Rattle.td_bind.specs.declared.tables.Named.TheVariants.{Table, Stable}
+use Rattle.td_bind.specs.Tables.{is_under, is_of, left_of, numbers_of, is_left, tags_at, name_at, first_of_tag, AreThere}
+use Rattle.td_bind.proofs.Filters.{filter_filter, filter_implied, filter_agreeing, filter-map, map_map, map_agreeing, all-filter, all_weaker}
+
+-- ---- tables by number
+
+-- an entry of a list of tables that are numbered from n on
+record IsAt (n : ℕ) (ts : List TableDef) (e : Numbered) : Type 0 where
+  from : n ≤ e.0
+  upto : e.0 < n + length ts
+  is : slice_get ts (e.0 - n) ≡ Some e.1
+
+one_behind : (n : ℕ) (t : TableDef) (ts : List TableDef) (e : Numbered) → IsAt (n + 1) ts e → IsAt n (t ∷ ts) e
+one_behind n t ts e h =
+    let from = h.from in
+    let upto = h.upto in
+    let next : e.0 - n ≡ suc (e.0 - (n + 1)) = omega arith in
+    record { from = omega arith; upto = omega arith; is = ap (slice_get (t ∷ ts)) next ∙ h.is }
+
+in_front : (n : ℕ) (t : TableDef) (ts : List TableDef) → IsAt n (t ∷ ts) (n, t)
+in_front n t ts =
+    let none : n - n ≡ 0 = omega arith in
+    record { from = omega arith; upto = omega arith; is = ap (slice_get (t ∷ ts)) none }
+
+all_at : (n : ℕ) (ts : List TableDef) → AllByRecursion (IsAt n ts) (numbered n ts)
+all_at n [] = tt
+all_at n (t ∷ ts) = (in_front n t ts, all_weaker (IsAt (n + 1) ts) (IsAt n (t ∷ ts)) (one_behind n t ts) (numbered (n + 1) ts) (all_at (n + 1) ts))
+
+-- an entry of the tables of a catalog
+pub record IsKnown (c : Catalog) (e : Numbered) : Type 0 where
+  pub numbered : IsNumbered e.0 (length c.tables)
+  pub is : table_at e.0 c ≡ Some e.1
+
+known_at : (c : Catalog) (e : Numbered) → IsAt 1 c.tables e → IsKnown c e
+known_at c e h =
+    let from = h.from in
+    let upto = h.upto in
+    record { numbered = (omega arith, omega arith); is = h.is }
+
+pub all_known : (c : Catalog) → AllByRecursion (IsKnown c) (all_tables c)
+all_known c = all_weaker (IsAt 1 c.tables) (IsKnown c) (known_at c) (all_tables c) (all_at 1 c.tables)
+
+pub numbers_of_all : (n : ℕ) (ts : List TableDef) → numbers_of (numbered n ts) ≡ range_with_len n (length ts)
+numbers_of_all n [] = refl
+numbers_of_all n (t ∷ ts) = ap (λ ns. n ∷ ns) (numbers_of_all (n + 1) ts)
+
+range_more : (p : ℕ → Bool) (i : ℕ) → filter p (range_with_len 1 (i + 1)) ≡ filter p (range_with_len 1 i) ++ cond (p (i + 1)) ((i + 1) ∷ []) []
+range_more p i =
+    let next : 1 + i ≡ i + 1 = omega arith in
+    let more : filter p (map (λ (k : ℕ). k) (range_with_len 1 (i + 1))) ≡ filter p (map (λ (k : ℕ). k) (range_with_len 1 i)) ++ cond (p (i + 1)) ((i + 1) ∷ []) [] = filter_of_map_range_with_len_more p (λ (k : ℕ). k) 1 i (i + 1) next in
+    ap (filter p) (sym (map-id (range_with_len 1 (i + 1)))) ∙ more ∙ ap (λ ks. filter p ks ++ cond (p (i + 1)) ((i + 1) ∷ []) []) (map-id (range_with_len 1 i))
+
+pub range_in : (p : ℕ → Bool) (i : ℕ) (xs : List ℕ) → xs ≡ filter p (range_with_len 1 i) → p (i + 1) ≡ true → xs ++ (i + 1) ∷ [] ≡ filter p (range_with_len 1 (i + 1))
+range_in p i xs h passes = ap (λ ys. ys ++ (i + 1) ∷ []) h ∙ sym (range_more p i ∙ ap (λ b. filter p (range_with_len 1 i) ++ cond b ((i + 1) ∷ []) []) passes)
+
+pub range_out : (p : ℕ → Bool) (i : ℕ) (xs : List ℕ) → xs ≡ filter p (range_with_len 1 i) → p (i + 1) ≡ false → xs ≡ filter p (range_with_len 1 (i + 1))
+range_out p i xs h fails = h ∙ sym (range_more p i ∙ ap (λ b. filter p (range_with_len 1 i) ++ cond b ((i + 1) ∷ []) []) fails ∙ append-nil (filter p (range_with_len 1 i)))
+
+-- the numbers of known tables are those of tables
+pub are_there : (c : Catalog) (es : List Numbered) → AllByRecursion (IsKnown c) es → AreThere c (numbers_of es)
+are_there c es h =
+    All-map (λ n. IsNumbered n (length c.tables)) (λ (e : Numbered). e.0) es
+    (All-from_recursion (λ (e : Numbered). IsNumbered e.0 (length c.tables)) es (all_weaker (IsKnown c) (λ (e : Numbered). IsNumbered e.0 (length c.tables)) (λ e k. k.numbered) es h))
+
+-- a test by number, and what a table has by its number, at known tables
+kept_by_number : (c : Catalog) (f : TableDef → Bool) (es : List Numbered) → AllByRecursion (IsKnown c) es → filter (λ n. option_map_or f (table_at n c) false) (numbers_of es) ≡ numbers_of (filter (λ (e : Numbered). f e.1) es)
+kept_by_number c f es h =
+    filter-map (λ (e : Numbered). e.0) (λ n. option_map_or f (table_at n c) false) es
+    ∙ ap numbers_of (filter_agreeing (λ (e : Numbered). option_map_or f (table_at e.0 c) false) (λ (e : Numbered). f e.1) es (all_weaker (IsKnown c) (λ (e : Numbered). option_map_or f (table_at e.0 c) false ≡ f e.1) (λ e k. ap (λ o. option_map_or f o false) k.is) es h))
+
+had_by_number : (c : Catalog) {X : Type 0} (f : TableDef → X) (d : X) (es : List Numbered) → AllByRecursion (IsKnown c) es → map (λ n. option_map_or f (table_at n c) d) (numbers_of es) ≡ map (λ (e : Numbered). f e.1) es
+had_by_number c f d es h =
+    map_map (λ (e : Numbered). e.0) (λ n. option_map_or f (table_at n c) d) es
+    ∙ map_agreeing (λ (e : Numbered). option_map_or f (table_at e.0 c) d) (λ (e : Numbered). f e.1) es (all_weaker (IsKnown c) (λ (e : Numbered). option_map_or f (table_at e.0 c) d ≡ f e.1) (λ e k. ap (λ o. option_map_or f o d) k.is) es h)
+
+-- ---- the tables that are left
+
+pub left_known : (named : Named) (columns : ℕ) (ps : List Comparison) (c : Catalog) → AllByRecursion (IsKnown c) (left_of named columns ps c)
+left_known named columns ps c = all-filter (IsKnown c) (λ (e : Numbered). all_hold_of_tags columns ps e.1.tags) (filter (is_of named) (all_tables c)) (all-filter (IsKnown c) (is_of named) (all_tables c) (all_known c))
+
+pub tags_left : (named : Named) (columns : ℕ) (ps : List Comparison) (c : Catalog) → map (tags_at c) (numbers_of (left_of named columns ps c)) ≡ map (λ (e : Numbered). e.1.tags) (left_of named columns ps c)
+tags_left named columns ps c = had_by_number c (λ (t : TableDef). t.tags) [] (left_of named columns ps c) (left_known named columns ps c)
+
+pub names_left : (named : Named) (columns : ℕ) (ps : List Comparison) (c : Catalog) → map (name_at c) (numbers_of (left_of named columns ps c)) ≡ map (λ (e : Numbered). e.1.name) (left_of named columns ps c)
+names_left named columns ps c = had_by_number c (λ (t : TableDef). t.name) [] (left_of named columns ps c) (left_known named columns ps c)
+
+-- ---- one table
+
+none_of : (m n : ℕ) (ts : List TableDef) → m < n → filter (λ (e : Numbered). e.0 == m) (numbered n ts) ≡ []
+none_of m n [] h = refl
+none_of m n (t ∷ ts) h =
+    let later : m < n + 1 = omega arith in
+    ap (λ b. cond b ((n, t) ∷ filter (λ (e : Numbered). e.0 == m) (numbered (n + 1) ts)) (filter (λ (e : Numbered). e.0 == m) (numbered (n + 1) ts))) (ne_eqb n m (λ e. omega arith))
+    ∙ none_of m (n + 1) ts later
+
+here : (m n : ℕ) (u t : TableDef) (rest : List Numbered) → n ≡ m → rest ≡ [] → u ≡ t → cond (n == m) ((n, u) ∷ rest) rest ≡ (m, t) ∷ []
+here m n u t rest e none same = ap (λ b. cond b ((n, u) ∷ rest) rest) (eq-eqb n m e) ∙ (λ i. (e i, same i) ∷ none i)
+
+later : (m n : ℕ) (u t : TableDef) (rest : List Numbered) → (n ≡ m → ⊥) → rest ≡ (m, t) ∷ [] → cond (n == m) ((n, u) ∷ rest) rest ≡ (m, t) ∷ []
+later m n u t rest ne e = ap (λ b. cond b ((n, u) ∷ rest) rest) (ne_eqb n m ne) ∙ e
+
+one_of : (m n : ℕ) (ts : List TableDef) (t : TableDef) → n ≤ m → slice_get ts (m - n) ≡ Some t → filter (λ (e : Numbered). e.0 == m) (numbered n ts) ≡ (m, t) ∷ []
+one_of m n [] t h is = absurd (cc)
+one_of m n (u ∷ ts) t h is =
+    elim (cases_eq n m) [
+      inl e ↦ (
+        let none : m - n ≡ 0 = omega arith in
+        let next : m < n + 1 = omega arith in
+        here m n u t (filter (λ (e : Numbered). e.0 == m) (numbered (n + 1) ts)) e (none_of m (n + 1) ts next)
+        (same_Some u t (ap (slice_get (u ∷ ts)) (sym none) ∙ is)))
+      | inr ne ↦ (
+        let more : n + 1 ≤ m = omega arith in
+        let next : m - n ≡ suc (m - (n + 1)) = omega arith in
+        later m n u t (filter (λ (e : Numbered). e.0 == m) (numbered (n + 1) ts)) ne
+        (one_of m (n + 1) ts t more (ap (slice_get (u ∷ ts)) (sym next) ∙ is)))
+    ]
+
+had : (o : Option TableDef) (tags : List Cell) → option_map (λ (t : TableDef). t.tags) o ≡ Some tags → (t : TableDef) × (o ≡ Some t) × (t.tags ≡ tags)
+had None tags h = absurd (cc)
+had (Some t) tags h = (t, refl, same_Some t.tags tags h)
+
+one_kept : (b : Bool) (n : ℕ) (t : TableDef) → numbers_of (cond b ((n, t) ∷ []) []) ≡ cond b (n ∷ []) []
+one_kept true n t = refl
+one_kept false n t = refl
+
+-- the table of a number, with its tags, is left or not
+one_left : (n columns : ℕ) (ps : List Comparison) (c : Catalog) (tags : List Cell) → IsNumbered n (length c.tables) → option_map (λ (t : TableDef). t.tags) (table_at n c) ≡ Some tags → numbers_of (left_of (Table n) columns ps c) ≡ cond (all_hold_of_tags columns ps tags) (n ∷ []) []
+one_left n columns ps c tags numbered h =
+    let found = had (table_at n c) tags h in
+    let t = found.0 in
+    ap (λ es. numbers_of (filter (λ (e : Numbered). all_hold_of_tags columns ps e.1.tags) es)) (one_of n 1 c.tables t numbered.0 found.1)
+    ∙ one_kept (all_hold_of_tags columns ps t.tags) n t
+    ∙ ap (λ own. cond (all_hold_of_tags columns ps own) (n ∷ []) []) found.2
+
+pub one_in : (n columns : ℕ) (ps : List Comparison) (c : Catalog) (tags : List Cell) → IsNumbered n (length c.tables) → option_map (λ (t : TableDef). t.tags) (table_at n c) ≡ Some tags → all_hold_of_tags columns ps tags ≡ true → n ∷ [] ≡ numbers_of (left_of (Table n) columns ps c)
+one_in n columns ps c tags numbered h holds = sym (one_left n columns ps c tags numbered h ∙ ap (λ b. cond b (n ∷ []) []) holds)
+
+pub one_out : (n columns : ℕ) (ps : List Comparison) (c : Catalog) (tags : List Cell) → IsNumbered n (length c.tables) → option_map (λ (t : TableDef). t.tags) (table_at n c) ≡ Some tags → all_hold_of_tags columns ps tags ≡ false → [] ≡ numbers_of (left_of (Table n) columns ps c)
+one_out n columns ps c tags numbered h holds = sym (one_left n columns ps c tags numbered h ∙ ap (λ b. cond b (n ∷ []) []) holds)
+
+-- ---- the subtables of a supertable
+
+under_left : (stable columns : ℕ) (ps : List Comparison) (c : Catalog) → left_of (Stable stable) columns ps c ≡ filter (λ (e : Numbered). is_under stable e.1 && all_hold_of_tags columns ps e.1.tags) (all_tables c)
+under_left stable columns ps c = filter_filter (λ (e : Numbered). all_hold_of_tags columns ps e.1.tags) (is_of (Stable stable)) (all_tables c)
+
+-- found among all tables
+pub left_among_all : (stable columns : ℕ) (ps : List Comparison) (c : Catalog) → filter (is_left stable columns ps c) (range_with_len 1 (length c.tables)) ≡ numbers_of (left_of (Stable stable) columns ps c)
+left_among_all stable columns ps c =
+    ap (filter (is_left stable columns ps c)) (sym (numbers_of_all 1 c.tables))
+    ∙ kept_by_number c (λ (t : TableDef). is_under stable t && all_hold_of_tags columns ps t.tags) (all_tables c) (all_known c)
+    ∙ ap numbers_of (sym (under_left stable columns ps c))
+
+-- the numbers that the index finds are those of known tables
+matched : ℕ → Op → Cell → Catalog → List Numbered
+matched tag p lit c = filter (λ (e : Numbered). tag_matches tag p lit e.1.tags) (filter (λ (e : Numbered). is_some e.1.parent) (all_tables c))
+
+matching_is : (tag : ℕ) (p : Op) (lit : Cell) (c : Catalog) → matching tag p lit (subtables_of c) ≡ numbers_of (matched tag p lit c)
+unfolding matched
+matching_is tag p lit c =
+    let subtables = filter (λ (e : Numbered). is_some e.1.parent) (all_tables c) in
+    ap (map (λ (s : ℕ × List Cell). s.0)) (filter-map (λ (e : Numbered). (e.0, e.1.tags)) (λ (s : ℕ × List Cell). tag_matches tag p lit s.1) subtables)
+    ∙ map_map (λ (e : Numbered). (e.0, e.1.tags)) (λ (s : ℕ × List Cell). s.0) (filter (λ (e : Numbered). tag_matches tag p lit e.1.tags) subtables)
+
+matched_known : (tag : ℕ) (p : Op) (lit : Cell) (c : Catalog) → AllByRecursion (IsKnown c) (matched tag p lit c)
+unfolding matched
+matched_known tag p lit c = all-filter (IsKnown c) (λ (e : Numbered). tag_matches tag p lit e.1.tags) (filter (λ (e : Numbered). is_some e.1.parent) (all_tables c)) (all-filter (IsKnown c) (λ (e : Numbered). is_some e.1.parent) (all_tables c) (all_known c))
+
+pub matching_there : (tag : ℕ) (p : Op) (lit : Cell) (c : Catalog) → AreThere c (matching tag p lit (subtables_of c))
+matching_there tag p lit c = subst (AreThere c) (sym (matching_is tag p lit c)) (are_there c (matched tag p lit c) (matched_known tag p lit c))
+
+-- a comparison that is found first, or found among the rest
+first_or_rest : (b m x : Bool) (q p : Comparison) (rest : Option Comparison) → cond b (Some q) rest ≡ Some p → cond (cond b m true) x false ≡ true → ((q ≡ p) × (m ≡ true)) ⊎ ((rest ≡ Some p) × (x ≡ true))
+first_or_rest true true x q p rest h k = inl (same_Some q p h, refl)
+first_or_rest true false x q p rest h k = inl (same_Some q p h, k)
+first_or_rest false m x q p rest h k = inr (h, k)
+
+-- where all comparisons of tags are true of a table's tags, the first of them is
+first_holds : (columns : ℕ) (ps : List Comparison) (p : Comparison) (tags : List Cell) → first_of_tag columns ps ≡ Some p → all_hold_of_tags columns ps tags ≡ true → tag_matches (p.place - (columns + 1)) p.op p.operand tags ≡ true
+first_holds columns [] p tags h k = absurd (cc)
+first_holds columns (q ∷ ps) p tags h k =
+    elim (first_or_rest (nat_lt columns q.place) (tag_matches (q.place - (columns + 1)) q.op q.operand tags) (all_hold_of_tags columns ps tags) q p (first_of_tag columns ps) h k) [
+      inl w ↦ (ap (λ (r : Comparison). tag_matches (r.place - (columns + 1)) r.op r.operand tags) (sym w.0) ∙ w.1)
+      | inr w ↦ first_holds columns ps p tags w.0 w.1
+    ]
+
+has_parent : (stable : ℕ) (o : Option ℕ) → option_map_or (λ parent. parent == stable) o false ≡ true → is_some o ≡ true
+has_parent stable None h = h
+has_parent stable (Some n) h = refl
+
+-- found among those that the index finds for the first comparison of a tag
+module _ (stable columns : ℕ) (ps : List Comparison) (p : Comparison) (c : Catalog) (first : first_of_tag columns ps ≡ Some p) where
+  among : Numbered → Bool
+  among e = is_under stable e.1 && all_hold_of_tags columns ps e.1.tags
+
+  matches : Numbered → Bool
+  matches e = tag_matches (p.place - (columns + 1)) p.op p.operand e.1.tags
+
+  kept_matches : (e : Numbered) → among e ≡ true → matches e ≡ true
+  unfolding among matches
+  kept_matches e h = first_holds columns ps p e.1.tags first ((and_parts (is_under stable e.1) (all_hold_of_tags columns ps e.1.tags) h).1)
+
+  kept_under : (e : Numbered) → among e ≡ true → is_some e.1.parent ≡ true
+  unfolding among
+  kept_under e h = has_parent stable e.1.parent ((and_parts (is_under stable e.1) (all_hold_of_tags columns ps e.1.tags) h).0)
+
+  all_kept : filter among (matched (p.place - (columns + 1)) p.op p.operand c) ≡ filter among (all_tables c)
+  unfolding matched matches
+  all_kept =
+      let subtables = filter (λ (e : Numbered). is_some e.1.parent) (all_tables c) in
+      filter_implied among matches kept_matches subtables ∙ filter_implied among (λ (e : Numbered). is_some e.1.parent) kept_under (all_tables c)
+
+  pub left_among_found : filter (is_left stable columns ps c) (matching (p.place - (columns + 1)) p.op p.operand (subtables_of c)) ≡ numbers_of (left_of (Stable stable) columns ps c)
+  unfolding among
+  left_among_found =
+      ap (filter (is_left stable columns ps c)) (matching_is (p.place - (columns + 1)) p.op p.operand c)
+      ∙ kept_by_number c (λ (t : TableDef). is_under stable t && all_hold_of_tags columns ps t.tags) (matched (p.place - (columns + 1)) p.op p.operand c) (matched_known (p.place - (columns + 1)) p.op p.operand c)
+      ∙ ap numbers_of all_kept
+      ∙ ap numbers_of (sym (under_left stable columns ps c))
