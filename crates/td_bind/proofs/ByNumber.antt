@@ -18,7 +18,7 @@ use Rattle.td_verdict.specs.declared.comparison.Comparison.{Comparison}
 use Rattle.td_verdict.specs.Plans.{Numbered, numbered, all_tables, subtables_of, holds_of_tags, all_hold_of_tags}
 use Rattle.td_bind.specs.declared.tables.Named.{Named}
 use Rattle.td_bind.specs.declared.tables.Named.TheVariants.{Table, Stable}
-use Rattle.td_bind.specs.Tables.{is_under, is_of, left_of, numbers_of, is_left, tags_at, name_at, first_of_tag, AreThere}
+use Rattle.td_bind.specs.Tables.{is_under, is_of, planned_of, numbers_of, is_planned, tags_at, name_at, first_of_tag, AreThere}
 use Rattle.td_bind.proofs.Filters.{filter_filter, filter_implied, filter_agreeing, filter-map, map_map, map_agreeing, all-filter, all_weaker}
 
 -- ---- tables by number
@@ -92,16 +92,16 @@ had_by_number c f d es h =
     map_map (λ (e : Numbered). e.0) (λ n. option_map_or f (table_at n c) d) es
     ∙ map_agreeing (λ (e : Numbered). option_map_or f (table_at e.0 c) d) (λ (e : Numbered). f e.1) es (all_weaker (IsKnown c) (λ (e : Numbered). option_map_or f (table_at e.0 c) d ≡ f e.1) (λ e k. ap (λ o. option_map_or f o d) k.is) es h)
 
--- ---- the tables that are left
+-- ---- the tables that are planned
 
-pub left_known : (named : Named) (columns : ℕ) (ps : List Comparison) (c : Catalog) → AllByRecursion (IsKnown c) (left_of named columns ps c)
-left_known named columns ps c = all-filter (IsKnown c) (λ (e : Numbered). all_hold_of_tags columns ps e.1.tags) (filter (is_of named) (all_tables c)) (all-filter (IsKnown c) (is_of named) (all_tables c) (all_known c))
+pub planned_known : (named : Named) (columns : ℕ) (ps : List Comparison) (c : Catalog) → AllByRecursion (IsKnown c) (planned_of named columns ps c)
+planned_known named columns ps c = all-filter (IsKnown c) (λ (e : Numbered). all_hold_of_tags columns ps e.1.tags) (filter (is_of named) (all_tables c)) (all-filter (IsKnown c) (is_of named) (all_tables c) (all_known c))
 
-pub tags_left : (named : Named) (columns : ℕ) (ps : List Comparison) (c : Catalog) → map (tags_at c) (numbers_of (left_of named columns ps c)) ≡ map (λ (e : Numbered). e.1.tags) (left_of named columns ps c)
-tags_left named columns ps c = had_by_number c (λ (t : TableDef). t.tags) [] (left_of named columns ps c) (left_known named columns ps c)
+pub planned_tags : (named : Named) (columns : ℕ) (ps : List Comparison) (c : Catalog) → map (tags_at c) (numbers_of (planned_of named columns ps c)) ≡ map (λ (e : Numbered). e.1.tags) (planned_of named columns ps c)
+planned_tags named columns ps c = had_by_number c (λ (t : TableDef). t.tags) [] (planned_of named columns ps c) (planned_known named columns ps c)
 
-pub names_left : (named : Named) (columns : ℕ) (ps : List Comparison) (c : Catalog) → map (name_at c) (numbers_of (left_of named columns ps c)) ≡ map (λ (e : Numbered). e.1.name) (left_of named columns ps c)
-names_left named columns ps c = had_by_number c (λ (t : TableDef). t.name) [] (left_of named columns ps c) (left_known named columns ps c)
+pub planned_names : (named : Named) (columns : ℕ) (ps : List Comparison) (c : Catalog) → map (name_at c) (numbers_of (planned_of named columns ps c)) ≡ map (λ (e : Numbered). e.1.name) (planned_of named columns ps c)
+planned_names named columns ps c = had_by_number c (λ (t : TableDef). t.name) [] (planned_of named columns ps c) (planned_known named columns ps c)
 
 -- ---- one table
 
@@ -122,16 +122,16 @@ one_of : (m n : ℕ) (ts : List TableDef) (t : TableDef) → n ≤ m → slice_g
 one_of m n [] t h is = absurd (cc)
 one_of m n (u ∷ ts) t h is =
     elim (cases_eq n m) [
-      inl e ↦ (
-        let none : m - n ≡ 0 = omega arith in
-        let next : m < n + 1 = omega arith in
-        here m n u t (filter (λ (e : Numbered). e.0 == m) (numbered (n + 1) ts)) e (none_of m (n + 1) ts next)
-        (same_Some u t (ap (slice_get (u ∷ ts)) (sym none) ∙ is)))
+      | inl e ↦ (
+          let none : m - n ≡ 0 = omega arith in
+          let next : m < n + 1 = omega arith in
+          here m n u t (filter (λ (e : Numbered). e.0 == m) (numbered (n + 1) ts)) e (none_of m (n + 1) ts next)
+          (same_Some u t (ap (slice_get (u ∷ ts)) (sym none) ∙ is)))
       | inr ne ↦ (
-        let more : n + 1 ≤ m = omega arith in
-        let next : m - n ≡ suc (m - (n + 1)) = omega arith in
-        later m n u t (filter (λ (e : Numbered). e.0 == m) (numbered (n + 1) ts)) ne
-        (one_of m (n + 1) ts t more (ap (slice_get (u ∷ ts)) (sym next) ∙ is)))
+          let more : n + 1 ≤ m = omega arith in
+          let next : m - n ≡ suc (m - (n + 1)) = omega arith in
+          later m n u t (filter (λ (e : Numbered). e.0 == m) (numbered (n + 1) ts)) ne
+          (one_of m (n + 1) ts t more (ap (slice_get (u ∷ ts)) (sym next) ∙ is)))
     ]
 
 had : (o : Option TableDef) (tags : List Cell) → option_map (λ (t : TableDef). t.tags) o ≡ Some tags → (t : TableDef) × (o ≡ Some t) × (t.tags ≡ tags)
@@ -142,32 +142,32 @@ one_kept : (b : Bool) (n : ℕ) (t : TableDef) → numbers_of (cond b ((n, t) �
 one_kept true n t = refl
 one_kept false n t = refl
 
--- the table of a number, with its tags, is left or not
-one_left : (n columns : ℕ) (ps : List Comparison) (c : Catalog) (tags : List Cell) → IsNumbered n (length c.tables) → option_map (λ (t : TableDef). t.tags) (table_at n c) ≡ Some tags → numbers_of (left_of (Table n) columns ps c) ≡ cond (all_hold_of_tags columns ps tags) (n ∷ []) []
-one_left n columns ps c tags numbered h =
+-- the table of a number, with its tags, is planned or not
+one_planned : (n columns : ℕ) (ps : List Comparison) (c : Catalog) (tags : List Cell) → IsNumbered n (length c.tables) → option_map (λ (t : TableDef). t.tags) (table_at n c) ≡ Some tags → numbers_of (planned_of (Table n) columns ps c) ≡ cond (all_hold_of_tags columns ps tags) (n ∷ []) []
+one_planned n columns ps c tags numbered h =
     let found = had (table_at n c) tags h in
     let t = found.0 in
     ap (λ es. numbers_of (filter (λ (e : Numbered). all_hold_of_tags columns ps e.1.tags) es)) (one_of n 1 c.tables t numbered.0 found.1)
     ∙ one_kept (all_hold_of_tags columns ps t.tags) n t
     ∙ ap (λ own. cond (all_hold_of_tags columns ps own) (n ∷ []) []) found.2
 
-pub one_in : (n columns : ℕ) (ps : List Comparison) (c : Catalog) (tags : List Cell) → IsNumbered n (length c.tables) → option_map (λ (t : TableDef). t.tags) (table_at n c) ≡ Some tags → all_hold_of_tags columns ps tags ≡ true → n ∷ [] ≡ numbers_of (left_of (Table n) columns ps c)
-one_in n columns ps c tags numbered h holds = sym (one_left n columns ps c tags numbered h ∙ ap (λ b. cond b (n ∷ []) []) holds)
+pub one_in : (n columns : ℕ) (ps : List Comparison) (c : Catalog) (tags : List Cell) → IsNumbered n (length c.tables) → option_map (λ (t : TableDef). t.tags) (table_at n c) ≡ Some tags → all_hold_of_tags columns ps tags ≡ true → n ∷ [] ≡ numbers_of (planned_of (Table n) columns ps c)
+one_in n columns ps c tags numbered h holds = sym (one_planned n columns ps c tags numbered h ∙ ap (λ b. cond b (n ∷ []) []) holds)
 
-pub one_out : (n columns : ℕ) (ps : List Comparison) (c : Catalog) (tags : List Cell) → IsNumbered n (length c.tables) → option_map (λ (t : TableDef). t.tags) (table_at n c) ≡ Some tags → all_hold_of_tags columns ps tags ≡ false → [] ≡ numbers_of (left_of (Table n) columns ps c)
-one_out n columns ps c tags numbered h holds = sym (one_left n columns ps c tags numbered h ∙ ap (λ b. cond b (n ∷ []) []) holds)
+pub one_out : (n columns : ℕ) (ps : List Comparison) (c : Catalog) (tags : List Cell) → IsNumbered n (length c.tables) → option_map (λ (t : TableDef). t.tags) (table_at n c) ≡ Some tags → all_hold_of_tags columns ps tags ≡ false → [] ≡ numbers_of (planned_of (Table n) columns ps c)
+one_out n columns ps c tags numbered h holds = sym (one_planned n columns ps c tags numbered h ∙ ap (λ b. cond b (n ∷ []) []) holds)
 
 -- ---- the subtables of a supertable
 
-under_left : (stable columns : ℕ) (ps : List Comparison) (c : Catalog) → left_of (Stable stable) columns ps c ≡ filter (λ (e : Numbered). is_under stable e.1 && all_hold_of_tags columns ps e.1.tags) (all_tables c)
-under_left stable columns ps c = filter_filter (λ (e : Numbered). all_hold_of_tags columns ps e.1.tags) (is_of (Stable stable)) (all_tables c)
+planned_under : (stable columns : ℕ) (ps : List Comparison) (c : Catalog) → planned_of (Stable stable) columns ps c ≡ filter (λ (e : Numbered). is_under stable e.1 && all_hold_of_tags columns ps e.1.tags) (all_tables c)
+planned_under stable columns ps c = filter_filter (λ (e : Numbered). all_hold_of_tags columns ps e.1.tags) (is_of (Stable stable)) (all_tables c)
 
 -- found among all tables
-pub left_among_all : (stable columns : ℕ) (ps : List Comparison) (c : Catalog) → filter (is_left stable columns ps c) (range_with_len 1 (length c.tables)) ≡ numbers_of (left_of (Stable stable) columns ps c)
-left_among_all stable columns ps c =
-    ap (filter (is_left stable columns ps c)) (sym (numbers_of_all 1 c.tables))
+pub planned_from_all : (stable columns : ℕ) (ps : List Comparison) (c : Catalog) → filter (is_planned stable columns ps c) (range_with_len 1 (length c.tables)) ≡ numbers_of (planned_of (Stable stable) columns ps c)
+planned_from_all stable columns ps c =
+    ap (filter (is_planned stable columns ps c)) (sym (numbers_of_all 1 c.tables))
     ∙ kept_by_number c (λ (t : TableDef). is_under stable t && all_hold_of_tags columns ps t.tags) (all_tables c) (all_known c)
-    ∙ ap numbers_of (sym (under_left stable columns ps c))
+    ∙ ap numbers_of (sym (planned_under stable columns ps c))
 
 -- the numbers that the index finds are those of known tables
 matched : ℕ → Op → Cell → Catalog → List Numbered
@@ -198,7 +198,7 @@ first_holds : (columns : ℕ) (ps : List Comparison) (p : Comparison) (tags : Li
 first_holds columns [] p tags h k = absurd (cc)
 first_holds columns (q ∷ ps) p tags h k =
     elim (first_or_rest (nat_lt columns q.place) (tag_matches (q.place - (columns + 1)) q.op q.operand tags) (all_hold_of_tags columns ps tags) q p (first_of_tag columns ps) h k) [
-      inl w ↦ (ap (λ (r : Comparison). tag_matches (r.place - (columns + 1)) r.op r.operand tags) (sym w.0) ∙ w.1)
+      | inl w ↦ (ap (λ (r : Comparison). tag_matches (r.place - (columns + 1)) r.op r.operand tags) (sym w.0) ∙ w.1)
       | inr w ↦ first_holds columns ps p tags w.0 w.1
     ]
 
@@ -228,10 +228,10 @@ module _ (stable columns : ℕ) (ps : List Comparison) (p : Comparison) (c : Cat
       let subtables = filter (λ (e : Numbered). is_some e.1.parent) (all_tables c) in
       filter_implied among matches kept_matches subtables ∙ filter_implied among (λ (e : Numbered). is_some e.1.parent) kept_under (all_tables c)
 
-  pub left_among_found : filter (is_left stable columns ps c) (matching (p.place - (columns + 1)) p.op p.operand (subtables_of c)) ≡ numbers_of (left_of (Stable stable) columns ps c)
+  pub planned_from_found : filter (is_planned stable columns ps c) (matching (p.place - (columns + 1)) p.op p.operand (subtables_of c)) ≡ numbers_of (planned_of (Stable stable) columns ps c)
   unfolding among
-  left_among_found =
-      ap (filter (is_left stable columns ps c)) (matching_is (p.place - (columns + 1)) p.op p.operand c)
+  planned_from_found =
+      ap (filter (is_planned stable columns ps c)) (matching_is (p.place - (columns + 1)) p.op p.operand c)
       ∙ kept_by_number c (λ (t : TableDef). is_under stable t && all_hold_of_tags columns ps t.tags) (matched (p.place - (columns + 1)) p.op p.operand c) (matched_known (p.place - (columns + 1)) p.op p.operand c)
       ∙ ap numbers_of all_kept
-      ∙ ap numbers_of (sym (under_left stable columns ps c))
+      ∙ ap numbers_of (sym (planned_under stable columns ps c))

@@ -19,9 +19,9 @@ use Rattle.td_verdict.specs.Plans.{Numbered, all_tables, is_in_source, all_hold_
 use Rattle.td_bind.specs.declared.tables.Named.{Named}
 use Rattle.td_bind.specs.declared.tables.Named.TheVariants.{Table, Stable}
 use Rattle.td_bind.specs.Passed.{source_cause}
-use Rattle.td_bind.specs.Tables.{named_by, named_in, is_of, left_of, numbers_of, tags_at, name_at, no_cells, plan_by, AreThere}
+use Rattle.td_bind.specs.Tables.{named_by, named_in, is_of, planned_of, numbers_of, tags_at, name_at, no_cells, plan_by, AreThere}
 use Rattle.td_bind.proofs.Filters.{map_map}
-use Rattle.td_bind.proofs.ByNumber.{tags_left, names_left, are_there, left_known}
+use Rattle.td_bind.proofs.ByNumber.{planned_tags, planned_names, are_there, planned_known}
 
 -- ---- timestamps
 
@@ -53,8 +53,8 @@ highest_more ps i p h is = sym (ap highest (take_more ps i p h) ∙ highest_push
 
 -- ---- tables
 
-pub left_there : (named : Named) (columns : ℕ) (ps : List Comparison) (c : Catalog) → AreThere c (numbers_of (left_of named columns ps c))
-left_there named columns ps c = are_there c (left_of named columns ps c) (left_known named columns ps c)
+pub planned_there : (named : Named) (columns : ℕ) (ps : List Comparison) (c : Catalog) → AreThere c (numbers_of (planned_of named columns ps c))
+planned_there named columns ps c = are_there c (planned_of named columns ps c) (planned_known named columns ps c)
 
 -- the tables of what a name names are those of the source of its name
 source_is : (table stable : Option ℕ) (named : Named) → named_by table stable ≡ Some named → (e : Numbered) → is_of named e ≡ is_in_source table stable e
@@ -73,17 +73,17 @@ plan_is q named c h =
 
 module _ (q : Query) (named : Named) (s : Schema) (c : Catalog) (ps : List Comparison) (same : ps ≡ comparisons_of s q.conds) where
   over : List Comparison → Plan
-  over qs = plan_over q s (left_of named (length s.columns) qs c) qs
+  over qs = plan_over q s (planned_of named (length s.columns) qs c) qs
 
   pub plan_made : (copy : Query) (schema : Schema) (tables : List ℕ) (parts tags : List (List Cell)) (names : List (List ℕ)) (lo hi : ℕ)
-      → copy ≡ q → schema ≡ s → tables ≡ numbers_of (left_of named (length s.columns) ps c) → parts ≡ map no_cells tables → tags ≡ map (tags_at c) tables → names ≡ map (name_at c) tables → lo ≡ lowest ps → hi ≡ highest ps
+      → copy ≡ q → schema ≡ s → tables ≡ numbers_of (planned_of named (length s.columns) ps c) → parts ≡ map no_cells tables → tags ≡ map (tags_at c) tables → names ≡ map (name_at c) tables → lo ≡ lowest ps → hi ≡ highest ps
       → ◌≡◌ {A = Plan} (record { query = copy; tables = tables; parts = parts; tags = tags; names = names; schema = schema; lo = lo; hi = hi; target = None }) (plan_by q named s c)
   unfolding over
   plan_made copy schema tables parts tags names lo hi q_is s_is t p g n l h =
-      let es = left_of named (length s.columns) ps c in
+      let es = planned_of named (length s.columns) ps c in
       let p_is : parts ≡ map (λ (e : Numbered). []) es = p ∙ ap (map no_cells) t ∙ map_map (λ (e : Numbered). e.0) no_cells es in
-      let g_is : tags ≡ map (λ (e : Numbered). e.1.tags) es = g ∙ ap (map (tags_at c)) t ∙ tags_left named (length s.columns) ps c in
-      let n_is : names ≡ map (λ (e : Numbered). e.1.name) es = n ∙ ap (map (name_at c)) t ∙ names_left named (length s.columns) ps c in
+      let g_is : tags ≡ map (λ (e : Numbered). e.1.tags) es = g ∙ ap (map (tags_at c)) t ∙ planned_tags named (length s.columns) ps c in
+      let n_is : names ≡ map (λ (e : Numbered). e.1.name) es = n ∙ ap (map (name_at c)) t ∙ planned_names named (length s.columns) ps c in
       let made : ◌≡◌ {A = Plan} (record { query = copy; tables = tables; parts = parts; tags = tags; names = names; schema = schema; lo = lo; hi = hi; target = None }) (over ps) = (λ i. record { query = q_is i; tables = t i; parts = p_is i; tags = g_is i; names = n_is i; schema = s_is i; lo = l i; hi = h i; target = None }) in
       made ∙ ap over same
 

@@ -40,20 +40,20 @@ is_of (Table n) e = e.0 == n
 is_of (Stable n) e = is_under n e.1
 
 -- the tables of what a name names whose tags pass all comparisons, which stand behind so many columns
-abbrev pub left_of : Named → ℕ → List Comparison → Catalog → List Numbered
-left_of named columns ps c = filter (λ (e : Numbered). all_hold_of_tags columns ps e.1.tags) (filter (is_of named) (all_tables c))
+abbrev pub planned_of : Named → ℕ → List Comparison → Catalog → List Numbered
+planned_of named columns ps c = filter (λ (e : Numbered). all_hold_of_tags columns ps e.1.tags) (filter (is_of named) (all_tables c))
 
 -- the plan of a query over what its source's name names
 abbrev pub plan_by : Query → Named → Schema → Catalog → Plan
-plan_by q named s c = plan_over q s (left_of named (length s.columns) (comparisons_of s q.conds) c) (comparisons_of s q.conds)
+plan_by q named s c = plan_over q s (planned_of named (length s.columns) (comparisons_of s q.conds) c) (comparisons_of s q.conds)
 
 -- the numbers of tables
 abbrev pub numbers_of : List Numbered → List ℕ
 numbers_of tables = map (λ (e : Numbered). e.0) tables
 
 -- whether the table of a number is a subtable of a supertable, and its tags pass all comparisons
-abbrev pub is_left : ℕ → ℕ → List Comparison → Catalog → ℕ → Bool
-is_left stable columns ps c n = option_map_or (λ (t : TableDef). is_under stable t && all_hold_of_tags columns ps t.tags) (table_at n c) false
+abbrev pub is_planned : ℕ → ℕ → List Comparison → Catalog → ℕ → Bool
+is_planned stable columns ps c n = option_map_or (λ (t : TableDef). is_under stable t && all_hold_of_tags columns ps t.tags) (table_at n c) false
 
 -- the tags and the name of the table of a number
 abbrev pub tags_at : Catalog → ℕ → List Cell

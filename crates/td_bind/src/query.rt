@@ -12,7 +12,7 @@ use crate::fields::comparisons;
 use crate::names::is_taken;
 use crate::selects::{body_cause, is_row_query, target_cause};
 use crate::slots::{LAST_TIME, time_from};
-use crate::tables::{Named, find_source, left_of, names_of, no_parts, tags_of};
+use crate::tables::{Named, find_source, names_of, no_parts, planned_of, tags_of};
 use std::alloc::Global;
 use td_catalog::Catalog;
 use td_layer::{Cell, Copied, NoMem};
@@ -152,7 +152,7 @@ fn plan_by(
     let comparisons = comparisons.as_slice();
     let columns = schema.columns.len();
     let (lo, hi) = range_of(comparisons);
-    let tables = left_of(alloc, named, columns, comparisons, catalog, tags)?;
+    let tables = planned_of(alloc, named, columns, comparisons, catalog, tags)?;
     let parts = no_parts(alloc, tables.as_slice())?;
     let tags = tags_of(alloc, catalog, tables.as_slice())?;
     let names = names_of(alloc, catalog, tables.as_slice())?;
@@ -189,7 +189,7 @@ pub fn bind_query(
     let Some((named, schema)) = find_source(catalog, &query.source) else {
         return Ok(Err(Cause::UnknownTable));
     };
-    let cause = body_cause(schema, query)?;
+    let cause = body_cause(alloc, schema, query)?;
     if let Some(cause) = cause {
         return Ok(Err(cause));
     }

@@ -6,7 +6,7 @@ ghost use Rattle.td_catalog.specs.Kept.{IsNumbered};
 ghost use Rattle.td_model.specs.Tags.{matching};
 ghost use Rattle.td_verdict.specs.Plans.{subtables_of, holds_of_tags, all_hold_of_tags};
 ghost use Rattle.td_verdict.specs.Queries.{source_schema};
-ghost use Rattle.td_bind.specs.Tables.{named_in, IsThere, left_of, numbers_of, is_left, first_of_tag, AreThere, tags_at, name_at, no_cells};
+ghost use Rattle.td_bind.specs.Tables.{named_in, IsThere, planned_of, numbers_of, is_planned, first_of_tag, AreThere, tags_at, name_at, no_cells};
 
 use crate::found::{find_stable, find_table};
 use std::alloc::Global;
@@ -37,7 +37,7 @@ pub(crate) fn find_source<'a>(catalog: &'a Catalog, name: &Name) -> Option<(Name
 }
 
 // The place among the tags of the tag that a comparison is of. The tags stand behind TBNAME and the columns.
-fn tag_of(columns: usize, comparison: &Comparison) -> usize
+fn tag_place(columns: usize, comparison: &Comparison) -> usize
     requires { columns < comparison.now.place }
     ensures { result ≡ comparison.now.place - (columns + 1) }
 {
@@ -51,7 +51,7 @@ fn holds_of_tags(columns: usize, tags: &Seq<Cell>, comparison: &Comparison) -> b
     if comparison.place <= columns {
         return true;
     }
-    let tag = tag_of(columns, comparison);
+    let tag = tag_place(columns, comparison);
     tag_matches(tags, tag, comparison.op, &comparison.operand)
 }
 
@@ -77,8 +77,8 @@ fn is_parent(stable: u32, parent: Option<u32>) -> bool
     }
 }
 
-// Whether the table of a number is a subtable of a supertable, and its tags pass.
-fn is_left(
+// Whether the table of a number is a subtable of a supertable, and its tags pass all comparisons.
+fn is_planned(
     stable: u32,
     columns: usize,
     comparisons: &[Comparison],
@@ -86,12 +86,13 @@ fn is_left(
     table: u32,
 ) -> bool
     requires { IsNumbered table (length catalog.now.catalog.tables) }
-    ensures { result ≡ is_left stable columns comparisons.now catalog.now.catalog table }
+    ensures { result ≡ is_planned stable columns comparisons.now catalog.now.catalog table }
 {
     is_parent(stable, catalog.parent_of(table))
         && all_hold_of_tags(columns, comparisons, catalog.tags_of(table))
 }
 
+// Adds a table at the end of others.
 fn add(tables: &mut Seq<u32>, table: u32) -> Result<(), NoMem>
     ensures { OnOk result (tables.new ≡ tables.old ++ table ∷ []) }
 {
@@ -101,8 +102,8 @@ fn add(tables: &mut Seq<u32>, table: u32) -> Result<(), NoMem>
     }
 }
 
-// Of some tables those subtables of a supertable whose tags pass.
-fn left_of_these(
+// Of some tables those subtables of a supertable whose tags pass all comparisons.
+fn planned_among(
     alloc: Global,
     stable: u32,
     columns: usize,
@@ -111,40 +112,40 @@ fn left_of_these(
     tables: &[u32],
 ) -> Result<Seq<u32>, NoMem>
     requires { AreThere catalog.now.catalog tables.now }
-    ensures { IfOk result (λ left. left ≡ filter (is_left stable columns comparisons.now catalog.now.catalog) tables.now) }
+    ensures { IfOk result (λ planned. planned ≡ filter (is_planned stable columns comparisons.now catalog.now.catalog) tables.now) }
 {
-    let mut left = Seq::new(alloc);
+    let mut planned = Seq::new(alloc);
     for table in tables {
-        if is_left(stable, columns, comparisons, catalog, *table) {
-            add(&mut left, *table)?;
+        if is_planned(stable, columns, comparisons, catalog, *table) {
+            add(&mut planned, *table)?;
         }
     }
-    Ok(left)
+    Ok(planned)
 }
 
-// Of all tables those subtables of a supertable whose tags pass.
+// Of all tables those subtables of a supertable whose tags pass all comparisons.
 #[tactic(auto, using(crate::proofs::ByNumber::range_in, crate::proofs::ByNumber::range_out))]
-fn left_of_all(
+fn planned_among_all(
     alloc: Global,
     stable: u32,
     columns: usize,
     comparisons: &[Comparison],
     catalog: &Catalog,
 ) -> Result<Seq<u32>, NoMem>
-    ensures { IfOk result (λ left. left ≡ filter (is_left stable columns comparisons.now catalog.now.catalog) (range_with_len 1 (length catalog.now.catalog.tables))) }
+    ensures { IfOk result (λ planned. planned ≡ filter (is_planned stable columns comparisons.now catalog.now.catalog) (range_with_len 1 (length catalog.now.catalog.tables))) }
 {
-    let mut left = Seq::new(alloc);
+    let mut planned = Seq::new(alloc);
     for i in 0..catalog.tables() {
         let table = i + 1;
-        if is_left(stable, columns, comparisons, catalog, table) {
-            add(&mut left, table)?;
+        if is_planned(stable, columns, comparisons, catalog, table) {
+            add(&mut planned, table)?;
         }
     }
-    Ok(left)
+    Ok(planned)
 }
 
-// The table of a number, where its tags pass.
-fn left_of_table(
+// The table of a number, where its tags pass all comparisons.
+fn planned_table(
     alloc: Global,
     table: u32,
     columns: usize,
@@ -152,14 +153,14 @@ fn left_of_table(
     catalog: &Catalog,
 ) -> Result<Seq<u32>, NoMem>
     requires { IsNumbered table (length catalog.now.catalog.tables) }
-    ensures { IfOk result (λ left. left ≡ numbers_of (left_of (Named.Table table) columns comparisons.now catalog.now.catalog)) }
+    ensures { IfOk result (λ planned. planned ≡ numbers_of (planned_of (Named.Table table) columns comparisons.now catalog.now.catalog)) }
 {
-    let mut left = Seq::new(alloc);
+    let mut planned = Seq::new(alloc);
     if !all_hold_of_tags(columns, comparisons, catalog.tags_of(table)) {
-        return Ok(left);
+        return Ok(planned);
     }
-    add(&mut left, table)?;
-    Ok(left)
+    add(&mut planned, table)?;
+    Ok(planned)
 }
 
 // The first comparison of a tag.
@@ -173,21 +174,18 @@ fn first_of_tag(columns: usize, comparisons: &[Comparison]) -> Option<&Compariso
 }
 
 // The numbers of all subtables of which a comparison of a tag is true.
-fn found_by(
-    tags: &TagIndex,
-    columns: usize,
-    comparison: &Comparison,
-) -> Result<Seq<u32>, NoMem>
+fn found_by(tags: &TagIndex, columns: usize, comparison: &Comparison) -> Result<Seq<u32>, NoMem>
     requires { columns < comparison.now.place }
     ensures { IfOk result (λ found. found ≡ matching (comparison.now.place - (columns + 1)) comparison.now.op comparison.now.operand tags.now.subtables) }
 {
-    let tag = tag_of(columns, comparison);
+    let tag = tag_place(columns, comparison);
     let found = tags.find(tag, comparison.op, &comparison.operand)?;
     Ok(found)
 }
 
-// The subtables of a supertable whose tags pass: by the index of tags, where a comparison is one of a tag.
-fn left_of_stable(
+// The subtables of a supertable whose tags pass all comparisons. Where one is of a tag, the index gives those that may be
+// among them.
+fn planned_subtables(
     alloc: Global,
     stable: u32,
     columns: usize,
@@ -196,20 +194,21 @@ fn left_of_stable(
     tags: &TagIndex,
 ) -> Result<Seq<u32>, NoMem>
     requires { tags.now.subtables ≡ subtables_of catalog.now.catalog }
-    ensures { IfOk result (λ left. left ≡ numbers_of (left_of (Named.Stable stable) columns comparisons.now catalog.now.catalog)) }
+    ensures { IfOk result (λ planned. planned ≡ numbers_of (planned_of (Named.Stable stable) columns comparisons.now catalog.now.catalog)) }
 {
     let Some(first) = first_of_tag(columns, comparisons) else {
-        let left = left_of_all(alloc, stable, columns, comparisons, catalog)?;
-        return Ok(left);
+        let planned = planned_among_all(alloc, stable, columns, comparisons, catalog)?;
+        return Ok(planned);
     };
     let found = found_by(tags, columns, first)?;
     let found = found.as_slice();
-    let left = left_of_these(alloc, stable, columns, comparisons, catalog, found)?;
-    Ok(left)
+    let planned = planned_among(alloc, stable, columns, comparisons, catalog, found)?;
+    Ok(planned)
 }
 
-// The numbers of the tables of a source whose tags pass all comparisons of tags, which stand behind so many columns.
-pub(crate) fn left_of(
+// The numbers of the tables that a query reads: those of what its source's name names whose tags pass all comparisons. The
+// tags stand behind so many columns.
+pub(crate) fn planned_of(
     alloc: Global,
     named: Named,
     columns: usize,
@@ -219,16 +218,16 @@ pub(crate) fn left_of(
 ) -> Result<Seq<u32>, NoMem>
     requires subtables { tags.now.subtables ≡ subtables_of catalog.now.catalog }
     requires there { IsThere named catalog.now.catalog }
-    ensures { IfOk result (λ left. left ≡ numbers_of (left_of named columns comparisons.now catalog.now.catalog)) }
+    ensures { IfOk result (λ planned. planned ≡ numbers_of (planned_of named columns comparisons.now catalog.now.catalog)) }
 {
     match named {
         Named::Table(table) => {
-            let left = left_of_table(alloc, table, columns, comparisons, catalog)?;
-            Ok(left)
+            let planned = planned_table(alloc, table, columns, comparisons, catalog)?;
+            Ok(planned)
         }
         Named::Stable(stable) => {
-            let left = left_of_stable(alloc, stable, columns, comparisons, catalog, tags)?;
-            Ok(left)
+            let planned = planned_subtables(alloc, stable, columns, comparisons, catalog, tags)?;
+            Ok(planned)
         }
     }
 }
@@ -253,11 +252,7 @@ pub(crate) fn tags_of(
 }
 
 // Copies of the names of some tables.
-pub(crate) fn names_of(
-    alloc: Global,
-    catalog: &Catalog,
-    tables: &[u32],
-) -> Result<Seq<Name>, NoMem>
+pub(crate) fn names_of(alloc: Global, catalog: &Catalog, tables: &[u32]) -> Result<Seq<Name>, NoMem>
     requires { AreThere catalog.now.catalog tables.now }
     ensures { IfOk result (λ all. all ≡ map (name_at catalog.now.catalog) tables.now) }
 {

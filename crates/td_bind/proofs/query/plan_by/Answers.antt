@@ -1,19 +1,19 @@
 use Rattle.std.proofs.Common.{◌≡◌, length, map, sym, subst, ap, ◌∙◌}
 use Rattle.td_verdict.specs.declared.comparison.Comparison.{Comparison}
 use Rattle.td_verdict.specs.Fields.{comparisons_of}
-use Rattle.td_bind.specs.Tables.{AreThere, left_of, numbers_of, tags_at, name_at, no_cells}
-use Rattle.td_bind.proofs.Planned.{left_there, plan_made}
+use Rattle.td_bind.specs.Tables.{AreThere, planned_of, numbers_of, tags_at, name_at, no_cells}
+use Rattle.td_bind.proofs.Planned.{planned_there, plan_made}
 use Rattle.td_bind.proofs.query.plan_by.Goals as goal
 
 pub tags_of-requires : goal.tags_of-requires
 tags_of-requires c =
     subst (AreThere c.args.catalog.now.catalog) (sym (c.as_slice-3.ensures ∙ c.in_ok-tables.ensures))
-    (left_there c.args.named c.len-columns.result c.as_slice-comparisons.result.now c.args.catalog.now.catalog)
+    (planned_there c.args.named c.len-columns.result c.as_slice-comparisons.result.now c.args.catalog.now.catalog)
 
 pub names_of-requires : goal.names_of-requires
 names_of-requires c =
     subst (AreThere c.args.catalog.now.catalog) (sym (c.as_slice-4.ensures ∙ c.in_ok-tables.ensures))
-    (left_there c.args.named c.len-columns.result c.as_slice-comparisons.result.now c.args.catalog.now.catalog)
+    (planned_there c.args.named c.len-columns.result c.as_slice-comparisons.result.now c.args.catalog.now.catalog)
 
 pub returns : goal.returns
 returns c =
@@ -23,7 +23,7 @@ returns c =
     let tables = c.in_ok-tables.tables in
     let catalog = c.args.catalog.now.catalog in
     let are = c.as_slice-comparisons.ensures ∙ c.in_ok-comparisons.ensures ∙ ap (comparisons_of s) c.as_slice.ensures in
-    let t = c.in_ok-tables.ensures ∙ ap (λ columns. numbers_of (left_of c.args.named columns ps catalog)) c.len-columns.ensures in
+    let t = c.in_ok-tables.ensures ∙ ap (λ columns. numbers_of (planned_of c.args.named columns ps catalog)) c.len-columns.ensures in
     let p = c.in_ok-parts.ensures ∙ ap (map no_cells) c.as_slice-2.ensures in
     let g = c.in_ok-tags.ensures ∙ ap (map (tags_at catalog)) c.as_slice-3.ensures in
     let n = c.in_ok-names.ensures ∙ ap (map (name_at catalog)) c.as_slice-4.ensures in

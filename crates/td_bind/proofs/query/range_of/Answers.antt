@@ -9,6 +9,7 @@ loop-comparison-preserved c =
     let i = c.loop-comparison.comparison-index in
     let p = c.comparison-item.result in
     let lo : c.max-lo.result ≡ max c.loop-comparison.lo c.low.result = search rules in
-    let hi : c.min-hi.result ≡ min c.loop-comparison.hi c.high.result = search rules in
-    (lo ∙ ap₂ max c.loop-comparison.invariant.0 c.low.ensures ∙ lowest_more ps i p c.loop-comparison-test.true c.comparison-item.is,
-    hi ∙ ap₂ min c.loop-comparison.invariant.1 c.high.ensures ∙ highest_more ps i p c.loop-comparison-test.true c.comparison-item.is)
+    let hi : c.min-hi.result ≡ min c.loop-comparison.hi c.high.result = search rules in (
+      lo ∙ ap₂ max c.loop-comparison.invariant.0 c.low.ensures ∙ lowest_more ps i p c.loop-comparison-test.true c.comparison-item.is,
+      hi ∙ ap₂ min c.loop-comparison.invariant.1 c.high.ensures ∙ highest_more ps i p c.loop-comparison-test.true c.comparison-item.is,
+    )
