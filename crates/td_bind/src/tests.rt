@@ -353,3 +353,42 @@ mod fields {
         Ok(())
     }
 }
+
+/// Plans of queries.
+mod plans {
+    use crate::bind_query;
+    use std::alloc::Global;
+    use std::test::Fail;
+    use td_catalog::Catalog;
+    use td_layer::{NoMem, Seq};
+    use td_model::{Cause, OrderBy, Query, WindowDef};
+    use td_tagidx::TagIndex;
+
+    fn all_of(alloc: Global, source: &str) -> Result<Query, NoMem> {
+        Ok(Query {
+            star: true,
+            items: Seq::new(alloc),
+            source: super::name(alloc, source)?,
+            conds: Seq::new(alloc),
+            parts: Seq::new(alloc),
+            window: WindowDef::Whole,
+            order: OrderBy::Plain,
+            skip: 0,
+            limit: None,
+        })
+    }
+
+    #[test]
+    fn nothing_is_read_of_an_empty_catalog(rt: HostRuntime) -> Result<(), Fail> {
+        let alloc = rt.alloc();
+        let query = all_of(alloc, "t")?;
+        let found = bind_query(
+            alloc,
+            &query,
+            &Catalog::empty(alloc),
+            &TagIndex::empty(alloc),
+        )?;
+        assert!(rt; matches!(found, Err(Cause::UnknownTable)));
+        Ok(())
+    }
+}
