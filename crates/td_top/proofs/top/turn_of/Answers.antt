@@ -8,6 +8,6 @@ returns g c =
     record {
       asked = record { phase = line.phase; session = line.session; ordinal = line.ordinal; stmt = c.in_ok-stmt.stmt };
       asks = record { phase = refl; session = refl; ordinal = refl; stmt = subst (λ x. IsAnswer x c.in_ok-stmt.stmt) c.as_slice.ensures c.in_ok-stmt.ensures };
-      takes = c.moment_of-moment.ensures;
+      takes = c.moment_of-moment.ensures.takes;
       answers = c.turn-turn.ensures;
     }
