@@ -148,7 +148,13 @@ impl<M: RowMap> Tables<M> {
         ensures turn { IfOk result (λ t. TurnIs stmt.now (Some (write_verdict stmt.now self.old.catalog self.old.edge moment)) self.old self.new session ordinal moment t.reply t.line) }
         ensures err { OnErr result (self.new ≡ self.old) }
     {
-        match bind_write(self.alloc, stmt, &self.catalog, self.contents.edge(), moment)? {
+        match bind_write(
+            self.alloc,
+            stmt,
+            &self.catalog,
+            self.contents.edge(),
+            moment,
+        )? {
             Ok((what, rows)) => {
                 let entry = Entry {
                     session,

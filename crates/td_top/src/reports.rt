@@ -6,11 +6,14 @@ use std::test::Fail;
 use td_layer::{NoMem, Seq};
 use td_memdev::{MemPlace, MemSink, MemSource, MemStore, Ticks};
 
-const METERS: &str = "1: CREATE STABLE meters (ts TIMESTAMP, voltage INT) TAGS (location BINARY(64), groupid INT);\n1: CREATE TABLE d1001 USING meters TAGS ('California.SanFrancisco', 2);\n1: CREATE TABLE d1002 USING meters TAGS ('California.LosAngeles', 3);\n1: INSERT INTO d1001 VALUES ('2018-10-03 14:38:05.000', 219) ('2018-10-03 14:38:15.000', 218);\n1: INSERT INTO d1002 VALUES ('2018-10-03 14:38:04.000', 220) ('2018-10-03 14:38:16.650', 221);\n";
+const METERS: &str =
+    "1: CREATE STABLE meters (ts TIMESTAMP, voltage INT) TAGS (location BINARY(64), groupid INT);\n1: CREATE TABLE d1001 USING meters TAGS ('California.SanFrancisco', 2);\n1: CREATE TABLE d1002 USING meters TAGS ('California.LosAngeles', 3);\n1: INSERT INTO d1001 VALUES ('2018-10-03 14:38:05.000', 219) ('2018-10-03 14:38:15.000', 218);\n1: INSERT INTO d1002 VALUES ('2018-10-03 14:38:04.000', 220) ('2018-10-03 14:38:16.650', 221);\n";
 
-const METERS_TOLD: &str = "base 0\n1.1 accepted 1\n1.2 accepted 2\n1.3 accepted 3\n1.4 accepted 4 rows 2\n1.5 accepted 5 rows 2\n";
+const METERS_TOLD: &str =
+    "base 0\n1.1 accepted 1\n1.2 accepted 2\n1.3 accepted 3\n1.4 accepted 4 rows 2\n1.5 accepted 5 rows 2\n";
 
-const METERS_JOURNAL: &str = "journal 5\n1 1.1 2000000000000\n2 1.2 2000000000000\n3 1.3 2000000000000\n4 1.4 2000000000000\n5 1.5 2000000000000\n";
+const METERS_JOURNAL: &str =
+    "journal 5\n1 1.1 2000000000000\n2 1.2 2000000000000\n3 1.3 2000000000000\n4 1.4 2000000000000\n5 1.5 2000000000000\n";
 
 // The report of a script, with a clock that stands still.
 fn report_of(alloc: Global, script: &str) -> Result<(Status, Vec<u8>), NoMem> {
@@ -117,7 +120,10 @@ fn each_text_after_the_meters_has_its_reply(rt: HostRuntime) -> Result<(), Fail>
 fn each_script_of_tables_has_its_report(rt: HostRuntime) -> Result<(), Fail> {
     let alloc = rt.alloc();
     let table: [(&str, &str); 7] = [
-        ("1: SELECT * FROM x", "base 0\n1.1 refused 0 UnknownTable\njournal 0\n"),
+        (
+            "1: SELECT * FROM x",
+            "base 0\n1.1 refused 0 UnknownTable\njournal 0\n",
+        ),
         (
             "1: CREATE TABLE t (ts TIMESTAMP, v INT)\n1: SELECT * FROM t\n",
             "base 0\n1.1 accepted 1\n1.2 answer 1 rows 0\nts,v\njournal 1\n1 1.1 2000000000000\n",
@@ -173,7 +179,8 @@ fn one_group_more_than_the_most_is_refused(rt: HostRuntime) -> Result<(), Fail> 
     )?;
     let (status, report) = report_of(alloc, script.as_str())?;
     assert_eq!(rt; status, Status::Done);
-    let told = b"base 0\n1.1 accepted 1\n1.2 accepted 2 rows 16384\n1.3 refused 2 TooMany rows 16384\n1.4 answer 2 rows 1\nts,v\n16383,0\njournal 2\n1 1.1 2000000000000\n2 1.2 2000000000000\n".as_slice();
+    let told =
+        b"base 0\n1.1 accepted 1\n1.2 accepted 2 rows 16384\n1.3 refused 2 TooMany rows 16384\n1.4 answer 2 rows 1\nts,v\n16383,0\njournal 2\n1 1.1 2000000000000\n2 1.2 2000000000000\n".as_slice();
     assert_eq!(rt; report.as_slice(), told);
     Ok(())
 }

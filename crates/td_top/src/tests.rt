@@ -144,7 +144,10 @@ fn a_text_that_is_refused_names_its_cause(rt: HostRuntime) -> Result<(), Fail> {
             "CREATE STREAM s IGNORE UPDATE 0 INTO o AS SELECT COUNT(*) FROM t INTERVAL(1s)",
             "OptionNotBuilt",
         ),
-        ("CREATE STREAM s INTO o AS SELECT COUNT(*) FROM t INTERVAL(1s)", "OptionNotBuilt"),
+        (
+            "CREATE STREAM s INTO o AS SELECT COUNT(*) FROM t INTERVAL(1s)",
+            "OptionNotBuilt",
+        ),
         ("OPEN c AS SELECT * FROM t", "OptionNotBuilt"),
         ("SELECT COUNT(*) FROM t", "OptionNotBuilt"),
         ("COMMIT", "OptionNotBuilt"),
