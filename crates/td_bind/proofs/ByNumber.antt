@@ -1,9 +1,7 @@
 -- The tables of a catalog by number, and those that a query reads, found in two ways.
-use Rattle.std.proofs.Common.{inl, inr, option_map, ◌≡◌, ℕ, suc, ◌+◌, ◌-◌, ◌<◌, ◌≤◌, ◌==◌, ◌⊎◌, Bool, true, false, cond, ◌&&◌, List, [], ◌∷◌, ◌++◌, map, append-nil, map-id, filter, length, slice_get, Option, Some, None, is_some, refl, sym, ap, subst, ◌∙◌, arith, All, nat_lt}
-use Rattle.std.specs.Prelude.{⊤}
-use Rattle.std.specs.List.{AllByRecursion, range_with_len, find}
+use Rattle.std.proofs.Common.{inl, inr, option_map, ◌≡◌, ℕ, suc, ◌+◌, ◌-◌, ◌<◌, ◌≤◌, ◌==◌, ◌⊎◌, Bool, true, false, cond, ◌&&◌, List, [], ◌∷◌, ◌++◌, map, append-nil, map-id, filter, length, slice_get, Option, Some, None, is_some, refl, sym, ap, subst, ◌∙◌, arith, nat_lt}
+use Rattle.std.specs.List.{AllByRecursion, range_with_len}
 use Rattle.std.specs.Option.{option_map_or}
-use Rattle.std.proofs.lemmas.Bool.Decides.{nat_tests}
 use Rattle.std.proofs.lemmas.Option.{same_Some}
 use Rattle.std.proofs.lemmas.List.FromFn.{filter_of_map_range_with_len_more}
 use Rattle.std.proofs.lemmas.Bool.{eq-eqb, ne_eqb, cases_eq, and_parts}
@@ -15,7 +13,7 @@ use Rattle.td_model.specs.Catalog.{Catalog, table_at}
 use Rattle.td_model.specs.Tags.{matching, tag_matches}
 use Rattle.td_catalog.specs.Kept.{IsNumbered}
 use Rattle.td_verdict.specs.declared.comparison.Comparison.{Comparison}
-use Rattle.td_verdict.specs.Plans.{Numbered, numbered, all_tables, subtables_of, holds_of_tags, all_hold_of_tags}
+use Rattle.td_verdict.specs.Plans.{Numbered, numbered, all_tables, subtables_of, all_hold_of_tags}
 use Rattle.td_bind.specs.declared.tables.Named.{Named}
 use Rattle.td_bind.specs.declared.tables.Named.TheVariants.{Table, Stable}
 use Rattle.td_bind.specs.Tables.{is_under, is_of, planned_of, numbers_of, is_planned, tags_at, name_at, first_of_tag, AreThere}

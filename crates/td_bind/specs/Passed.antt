@@ -1,5 +1,5 @@
 -- The causes that the source of a query meets, before those of its body.
-use Rattle.std.specs.Prelude.{not, List, [], ◌∷◌, Option}
+use Rattle.std.specs.Prelude.{not, [], ◌∷◌, Option}
 use Rattle.td_model.specs.declared.language.Query.{Query}
 use Rattle.td_model.specs.declared.report.Cause.{Cause}
 use Rattle.td_model.specs.declared.report.Cause.TheVariants as cause

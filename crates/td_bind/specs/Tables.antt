@@ -1,6 +1,6 @@
 -- The tables that a query reads, where the name of its source and the places of its comparisons are found: which they are, and
 -- what a table has by its number.
-use Rattle.std.specs.Prelude.{ℕ, ◌==◌, ◌&&◌, Bool, true, false, List, [], ◌∷◌, map, filter, length, Option, Some, None, nat_lt, ⊤}
+use Rattle.std.specs.Prelude.{ℕ, ◌==◌, ◌&&◌, Bool, false, List, [], map, filter, length, Option, Some, None, nat_lt, ⊤}
 use Rattle.std.specs.List.{find, All}
 use Rattle.std.specs.Option.{option_map_or}
 use Rattle.td_layer.specs.declared.values.Cell.{Cell}

@@ -1,12 +1,11 @@
 -- A step of a state, by its parts.
 use Rattle.std.proofs.Common.{◌≡◌, ℕ, ◌+◌, List, [], ◌∷◌, Option, Some, None, refl, sym, ap, ◌∙◌}
-use Rattle.td_layer.specs.declared.values.Key.{Key}
 use Rattle.td_model.specs.declared.history.Put.{Put}
 use Rattle.td_model.specs.declared.history.What.{What}
 use Rattle.td_model.specs.declared.history.What.TheVariants as what
 use Rattle.td_model.specs.declared.history.Entry.{Entry}
 use Rattle.td_model.specs.Catalog.{Catalog, with_what, table_at}
-use Rattle.td_model.specs.State.{State, effect, step, put_all, put_one, parent_of, row_put, latest_raised}
+use Rattle.td_model.specs.State.{State, effect, step, put_all, parent_of, latest_raised}
 use Rattle.td_rows.specs.Puts.{rows_after, row_after}
 use Rattle.td_tables.specs.Latest.{raised_all, raised_by}
 use Rattle.td_tables.specs.Contents.{Kept, kept_after, state_of}

@@ -1,6 +1,5 @@
 -- What is kept beside a catalog, and what an entry makes of it.
-use Rattle.std.specs.Prelude.{ℕ, ◌+◌, ◌*◌, not, nat_le, List, [], ◌∷◌, ◌++◌, filter, length, Option, Some, None}
-use Rattle.td_layer.specs.declared.values.Cell.{Cell}
+use Rattle.std.specs.Prelude.{ℕ, ◌+◌, ◌*◌, not, nat_le, [], ◌∷◌, ◌++◌, filter, length, Option, Some, None}
 use Rattle.td_model.specs.declared.history.What.{What}
 use Rattle.td_model.specs.declared.history.What.TheVariants as what
 use Rattle.td_model.specs.Catalog.{Catalog}

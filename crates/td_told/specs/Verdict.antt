@@ -1,5 +1,5 @@
 -- What a statement meets in a state, and what a query answers.
-use Rattle.std.specs.Prelude.{ℕ, Bool, true, false, if◌then◌else◌, List, []}
+use Rattle.std.specs.Prelude.{ℕ, Bool, true, if◌then◌else◌, List, []}
 use Rattle.td_layer.specs.declared.values.Cell.{Cell}
 use Rattle.td_model.specs.declared.language.Stmt.{Stmt}
 use Rattle.td_model.specs.declared.language.Stmt.TheVariants as stmt

@@ -1,7 +1,7 @@
-use Rattle.std.proofs.Common.{◌≡◌, Some, None, sym, ap, ◌∙◌}
+use Rattle.std.proofs.Common.{◌≡◌, None, sym, ap, ◌∙◌}
 use Rattle.td_verdict.specs.Queries.{passes_or, body_cause}
 use Rattle.td_bind.specs.Passed.{source_cause}
-use Rattle.td_bind.specs.Tables.{plan_by, named_in}
+use Rattle.td_bind.specs.Tables.{plan_by}
 use Rattle.td_bind.proofs.Planned.{plan_is, cause_of_source, cause_of_body}
 use Rattle.td_bind.proofs.query.bind_query.Goals as goal
 

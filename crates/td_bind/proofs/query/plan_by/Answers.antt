@@ -1,5 +1,4 @@
-use Rattle.std.proofs.Common.{◌≡◌, length, map, sym, subst, ap, ◌∙◌}
-use Rattle.td_verdict.specs.declared.comparison.Comparison.{Comparison}
+use Rattle.std.proofs.Common.{map, sym, subst, ap, ◌∙◌}
 use Rattle.td_verdict.specs.Fields.{comparisons_of}
 use Rattle.td_bind.specs.Tables.{AreThere, planned_of, numbers_of, tags_at, name_at, no_cells}
 use Rattle.td_bind.proofs.Planned.{planned_there, plan_made}

@@ -1,5 +1,4 @@
-use Rattle.std.proofs.Common.{◌≡◌, max, min, ap, ◌∙◌, ap₂, arith, rules}
-use Rattle.std.proofs.lemmas.Grind.{common_steps}
+use Rattle.std.proofs.Common.{◌≡◌, max, min, ◌∙◌, ap₂, rules}
 use Rattle.td_bind.proofs.Planned.{lowest_more, highest_more}
 use Rattle.td_bind.proofs.query.range_of.Goals as goal
 

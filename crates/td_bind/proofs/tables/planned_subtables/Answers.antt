@@ -1,7 +1,6 @@
 use Rattle.std.proofs.Common.{◌≡◌, ◌∙◌, ap, sym, subst, ◌-◌, ◌+◌, filter, Some}
 use Rattle.std.specs.Option.{option_copied}
 use Rattle.td_model.specs.Tags.{matching}
-use Rattle.td_verdict.specs.Plans.{subtables_of}
 use Rattle.td_bind.specs.Tables.{is_planned, AreThere, first_of_tag}
 use Rattle.td_bind.proofs.ByNumber.{planned_from_all, planned_from_found, matching_there}
 use Rattle.td_bind.proofs.tables.planned_subtables.Goals as goal

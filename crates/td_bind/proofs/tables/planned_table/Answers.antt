@@ -1,4 +1,4 @@
-use Rattle.std.proofs.Common.{◌≡◌, [], ◌∷◌, ◌++◌, ap, sym, ◌∙◌}
+use Rattle.std.proofs.Common.{[], ◌∷◌, ◌++◌, ap, sym, ◌∙◌}
 use Rattle.td_bind.proofs.ByNumber.{one_in, one_out}
 use Rattle.td_bind.proofs.tables.planned_table.Goals as goal
 

@@ -1,4 +1,4 @@
-use Rattle.std.proofs.Common.{◌≡◌, ◌+◌, ◌∙◌, ap}
+use Rattle.std.proofs.Common.{◌+◌, ◌∙◌, ap}
 use Rattle.td_tables.proofs.Subtables.{next_absent}
 use Rattle.td_tables.proofs.contents.Contents.change.Goals as goal
 

@@ -1,4 +1,4 @@
-use Rattle.std.proofs.Common.{◌≡◌, ◌+◌, refl}
+use Rattle.std.proofs.Common.{◌+◌}
 use Rattle.td_tables.proofs.Subtables.{kept_right}
 use Rattle.td_tables.proofs.Steps.{stepped}
 use Rattle.td_tables.proofs.tables.Tables.accept.Goals as goal

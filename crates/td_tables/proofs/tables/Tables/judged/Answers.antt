@@ -1,4 +1,4 @@
-use Rattle.std.proofs.Common.{◌≡◌, ◌∙◌, sym}
+use Rattle.std.proofs.Common.{◌∙◌, sym}
 use Rattle.td_tables.proofs.Turns.{read_turn}
 use Rattle.td_tables.proofs.tables.Tables.judged.Goals as goal
 

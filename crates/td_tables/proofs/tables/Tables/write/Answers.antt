@@ -1,4 +1,4 @@
-use Rattle.std.proofs.Common.{◌≡◌, ◌∙◌, sym, ap}
+use Rattle.std.proofs.Common.{◌∙◌, sym, ap}
 use Rattle.td_verdict.specs.Writes.{write_verdict}
 use Rattle.td_bind.specs.Answers.{verdict_of}
 use Rattle.td_tables.proofs.Turns.{accepted_turn}
