@@ -10,8 +10,6 @@
 mod aggr;
 mod laws;
 mod tally;
-#[cfg(test)]
-mod tests;
 
 pub use aggr::Aggr;
 pub use laws::{aggregates_in_any_order, ends_in_row_order, tally_of_a_list};

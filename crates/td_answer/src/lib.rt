@@ -13,7 +13,5 @@ mod answers;
 mod cells;
 mod picks;
 mod shown;
-#[cfg(test)]
-mod tests;
 
 pub use answers::answer;

@@ -38,6 +38,3 @@ pub use query::bind_query;
 pub use remove::{bind_delete, bind_drop_stream, bind_trim};
 pub use subtables::bind_make_sub;
 pub use write::{bind_write, is_write};
-
-#[cfg(test)]
-mod tests;

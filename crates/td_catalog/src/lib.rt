@@ -11,8 +11,6 @@
 mod catalog;
 mod change;
 mod steps;
-#[cfg(test)]
-mod tests;
 
 pub use catalog::Catalog;
 pub use change::Change;

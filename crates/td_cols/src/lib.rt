@@ -12,8 +12,6 @@
 mod bytes;
 mod kinds;
 mod lanes;
-#[cfg(test)]
-mod tests;
 
 pub use kinds::{Kind, code, in_range, load, one_spelling, store, width};
 pub use lanes::Lane;

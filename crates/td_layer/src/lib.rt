@@ -15,6 +15,3 @@ mod values;
 pub use roomy::Roomy;
 pub use seq::{Copied, Name, Seq};
 pub use values::{Birth, Cell, Func, Key, NoMem, Row, Value};
-
-#[cfg(test)]
-mod tests;

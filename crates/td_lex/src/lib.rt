@@ -18,8 +18,6 @@ mod kinds;
 mod laws;
 mod lexer;
 mod scan;
-#[cfg(test)]
-mod tests;
 mod times;
 
 pub use decimals::decimal;

@@ -20,6 +20,3 @@ pub use gate::{FreeGate, Hold, HoldGate};
 pub use place::{MemPlace, MemStore};
 pub use sink::MemSink;
 pub use source::MemSource;
-
-#[cfg(test)]
-mod tests;

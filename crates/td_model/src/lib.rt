@@ -27,6 +27,3 @@ pub use report::{Cause, JournalLine, Many, Mark, Reply, Report};
 pub use td_cols::{Kind, in_range};
 pub use td_layer::{Cell, Func};
 pub use windows::{Delta, WinKey, WinRow};
-
-#[cfg(test)]
-mod tests;

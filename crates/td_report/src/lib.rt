@@ -15,8 +15,6 @@ mod journal;
 mod law;
 mod numbers;
 mod replies;
-#[cfg(test)]
-mod tests;
 mod text;
 
 pub use law::a_text_tells_its_report;

@@ -19,6 +19,3 @@ mod rows;
 pub use listed::ListedRows;
 pub use ordered::OrderedRows;
 pub use rows::RowMap;
-
-#[cfg(test)]
-mod tests;

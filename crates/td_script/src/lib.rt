@@ -13,8 +13,6 @@ mod laws;
 mod lines;
 mod numbering;
 mod reading;
-#[cfg(test)]
-mod tests;
 
 pub use laws::{apart, numbered, one_line, one_script};
 pub use lines::{Line, ScriptFault};

@@ -14,6 +14,3 @@ mod tables;
 
 pub use tables::{Tables, Turn};
 pub use td_rows::{ListedRows, OrderedRows, RowMap};
-
-#[cfg(test)]
-mod tests;

@@ -13,8 +13,6 @@
 mod cells;
 mod index;
 mod slots;
-#[cfg(test)]
-mod tests;
 
 pub use cells::tag_matches;
 pub use index::{TagChange, TagIndex};

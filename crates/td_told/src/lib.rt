@@ -12,6 +12,3 @@
 mod clock;
 
 pub use clock::reads_clock;
-
-#[cfg(test)]
-mod tests;

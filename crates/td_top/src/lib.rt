@@ -16,8 +16,3 @@ mod top;
 
 pub use status::Status;
 pub use top::{play, play_lines, told_of, vnode};
-
-#[cfg(test)]
-mod reports;
-#[cfg(test)]
-mod tests;

@@ -13,8 +13,6 @@ mod laws;
 mod sessions;
 mod span;
 mod states;
-#[cfg(test)]
-mod tests;
 
 pub use intervals::interval;
 pub use laws::{interval_windows_are_determined, spans_group_rows};

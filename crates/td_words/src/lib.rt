@@ -130,6 +130,3 @@ fn command_in<'a>(matches: &ArgMatches<'a>) -> Option<Command<'a>>
     let dir = play.get_str("DIR")?;
     Some(Command::Play { dir })
 }
-
-#[cfg(test)]
-mod tests;

@@ -1,6 +1,0 @@
-use Rattle.std.proofs.Common.{◌≡◌, ◌≤◌}
-use Rattle.td_aggr.specs.Tallies.{IsSound}
-use Rattle.td_aggr.proofs.tests.tally.Given as goal
-
-abbrev pub invariant-loop-row : goal.invariant-loop-row
-invariant-loop-row l = IsSound l.tally × (l.tally.rows ≡ l.row-index) × (l.tally.count ≤ l.row-index)
