@@ -10,7 +10,7 @@ use Rattle.td_layer.specs.declared.values.Value.{Value}
 use Rattle.td_layer.specs.declared.values.Value.TheVariants as value
 use Rattle.td_layer.specs.declared.values.Func.{Func}
 use Rattle.td_layer.specs.declared.values.Func.TheVariants.{First, Last}
-use Rattle.td_layer.specs.Aggregates.{is_before, HaveOwnKeys, IsInRowOrder, not_null, earliest, latest, aggregate_of_noted, aggregate}
+use Rattle.td_aggr.specs.Aggregates.{is_before, HaveOwnKeys, IsInRowOrder, not_null, earliest, latest, aggregate_of_noted, aggregate}
 use Rattle.td_aggr.specs.declared.tally.Tally.{Tally}
 use Rattle.td_aggr.specs.Tallies.{Mark, key_of, lesser, greater, tally_of_row, tally_of, merged, shown}
 use Rattle.td_aggr.specs.Laws.{associative, shows_aggregates, lesser-null, same_tally, greater-null}

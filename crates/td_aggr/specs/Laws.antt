@@ -8,7 +8,7 @@ use Rattle.td_layer.specs.declared.values.Value.{Value}
 use Rattle.td_layer.specs.declared.values.Value.TheVariants as value
 use Rattle.td_layer.specs.declared.values.Func.{Func}
 use Rattle.td_layer.specs.declared.values.Func.TheVariants.{Count, Sum, Min, Max, Avg, First, Last, Spread}
-use Rattle.td_layer.specs.Aggregates.{is_before, not_null, numbers, sum_of, least, greatest, earliest, latest, aggregate_of_noted, aggregate}
+use Rattle.td_aggr.specs.Aggregates.{is_before, not_null, numbers, sum_of, least, greatest, earliest, latest, aggregate_of_noted, aggregate}
 use Rattle.td_aggr.specs.declared.tally.Tally.{Tally}
 use Rattle.td_aggr.specs.Tallies.{Mark, lesser, greater, earlier, later, empty_tally, tally_of_row, tally_of, merged, shown}
 

@@ -1,4 +1,4 @@
-//! Aggregates of a column, in one value of fixed size.
+//! [base] Aggregates of a column, in one value of fixed size.
 //!
 //! A [`Tally`] sums up the rows that it was made of, so that COUNT, SUM, MIN, MAX, AVG, FIRST, LAST and SPREAD can be
 //! read from it. It is promised that what is read is the aggregate of these rows, that merging two tallies gives the

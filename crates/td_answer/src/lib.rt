@@ -1,4 +1,4 @@
-//! The answer of a row query over rows by key.
+//! [answers] The answer of a row query over rows by key.
 //!
 //! [`answer`] reads the rows of a plan's tables in the plan's range of timestamps and gives those of which all comparisons are
 //! true, in the order of the answer. It promises the answer of the definitions (`td_verdict`), which know no plan: no row of a

@@ -1,4 +1,4 @@
-//! The verdict of a write over the whole language, and of a row query with its plan.
+//! [binding] The verdict of a write over the whole language, and of a row query with its plan.
 //!
 //! [`bind_write`] says what a write meets in a catalog, at a retention edge and a moment: accepted, as an entry of the history
 //! with its count of rows, or refused with the first cause that applies. It promises that this is the verdict of the

@@ -1,4 +1,4 @@
-//! The catalog: supertables, tables and live streams, by name and by number.
+//! [binding] The catalog: supertables, tables and live streams, by name and by number.
 //!
 //! A [`Catalog`] finds each by its name in time that doesn't grow with their number, and lends what it keeps of each by its
 //! number. It changes in two steps: [`Catalog::prepare`] takes all the memory that an entry of the history needs and leaves

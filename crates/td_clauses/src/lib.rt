@@ -1,4 +1,4 @@
-//! Clauses of queries: names, literals, items, conditions, windows.
+//! [text] Clauses of queries: names, literals, items, conditions, windows.
 //!
 //! Each production of a clause is a grammar, given as data (`specs/Productions`, one production a line), and each function
 //! reads one production: it gives what `td_grammar`'s reader gives for it, which is exactly the grammar's tree and what

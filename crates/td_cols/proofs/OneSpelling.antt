@@ -8,6 +8,7 @@ use Rattle.std.proofs.lemmas.Int.{to_z_pos, of_z-to_z}
 use Rattle.std.specs.Int.{w128, cast_unsigned, cast_signed}
 use Rattle.byteorder.specs.Endian.{little_bytes, little_number, low_bytes, twos_complement}
 use Rattle.byteorder.specs.Numbers.{length-bytes_low_first, little_from-lt}
+use Rattle.td_limits.specs.declared.limits.TheConstants.{LAST_TIMESTAMP}
 use Rattle.td_cols.specs.declared.kinds.Kind.{Kind}
 use Rattle.td_cols.specs.declared.kinds.Kind.TheVariants.{Bool as Truth, I8, I16, I32, I64, U8, U16, U32, U64, Time, Wide, Text}
 use Rattle.td_cols.specs.Kinds.{kind_width, kind_is_signed, kind_least, kind_most, is_in_range}
@@ -190,6 +191,6 @@ kind_spelling U8 = of_lane U8 (lane_spelling 1 false refl) (λ v r. r)
 kind_spelling U16 = of_lane U16 (lane_spelling 2 false refl) (λ v r. r)
 kind_spelling U32 = of_lane U32 (lane_spelling 4 false refl) (λ v r. r)
 kind_spelling U64 = of_lane U64 (lane_spelling 8 false refl) (λ v r. r)
-kind_spelling Time = of_lane Time (lane_spelling 8 false refl) (λ v r. narrower 253402300799999 (2 ^ 64 - 1) v (omega arith) r)
+kind_spelling Time = of_lane Time (lane_spelling 8 false refl) (λ v r. narrower LAST_TIMESTAMP (2 ^ 64 - 1) v (omega arith) r)
 kind_spelling Wide = of_lane Wide (lane_spelling 16 true refl) (λ v r. r)
 kind_spelling (Text n) = text_spelling n

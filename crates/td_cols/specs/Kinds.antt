@@ -1,5 +1,6 @@
 -- The kinds of a column: code, width, sign and range of each.
 use Rattle.std.specs.Prelude.{ℕ, ◌-◌, ◌^◌, Bool, true, false, ◌&&◌, ℤ, pos, neg_ℤ, int_le}
+use Rattle.td_limits.specs.declared.limits.TheConstants.{LAST_TIMESTAMP}
 use Rattle.td_cols.specs.declared.kinds.Kind.{Kind}
 use Rattle.td_cols.specs.declared.kinds.Kind.TheVariants.{Bool as Truth, I8, I16, I32, I64, U8, U16, U32, U64, Time, Wide, Text}
 
@@ -27,7 +28,7 @@ kind_form U8 = form 6 1 false (pos 0) (pos (2 ^ 8 - 1))
 kind_form U16 = form 7 2 false (pos 0) (pos (2 ^ 16 - 1))
 kind_form U32 = form 8 4 false (pos 0) (pos (2 ^ 32 - 1))
 kind_form U64 = form 9 8 false (pos 0) (pos (2 ^ 64 - 1))
-kind_form Time = form 10 8 false (pos 0) (pos 253402300799999)
+kind_form Time = form 10 8 false (pos 0) (pos LAST_TIMESTAMP)
 kind_form Wide = form 11 16 true (neg_ℤ (pos (2 ^ 127))) (pos (2 ^ 127 - 1))
 kind_form (Text n) = form 12 0 false (pos 1) (pos 0)
 

@@ -1,4 +1,4 @@
-// Numbers as bytes, of any width up to 16.
+//! Numbers as bytes, of any width up to 16.
 ghost use Rattle.std.specs.Prelude.{◌≡◌, ◌<◌, ◌≤◌, length};
 ghost use Rattle.td_cols.specs.Spelling.{spelling_in, number_in};
 

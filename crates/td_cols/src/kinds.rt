@@ -1,9 +1,10 @@
-// The kinds of a column, and the calls that take one.
+//! The kinds of a column, and the calls that take one.
 ghost use Rattle.std.specs.Prelude.{◌≡◌, ◌<◌, ◌≤◌, length, IsTrue};
 ghost use Rattle.td_cols.specs.Kinds.{kind_code, kind_width, kind_is_signed, kind_least, kind_most, is_in_range};
 ghost use Rattle.td_cols.specs.Spelling.{spelling, number_spelled, HasOneSpelling};
 
 use crate::bytes::{read_number, write_number};
+use td_limits::LAST_TIMESTAMP;
 
 /// The kind of a column or of a result. `Bool` is 0 or 1, `Time` counts milliseconds from 1970 to the end of
 /// the year 9999, `Wide` holds sums in 128 bits, and a `Text` has at most so many bytes.
@@ -22,9 +23,6 @@ pub enum Kind {
     Wide,
     Text(u16),
 }
-
-/// The last millisecond of the year 9999.
-const LAST_TIME: i128 = 253_402_300_799_999;
 
 /// What is fixed of a kind: its code in files, the bytes of each of its numbers, whether these are two's
 /// complement, and the least and the most of its numbers.
@@ -56,7 +54,7 @@ fn form_of(kind: Kind) -> Form
         Kind::U16 => (7, 2, false, 0, u16::MAX as i128),
         Kind::U32 => (8, 4, false, 0, u32::MAX as i128),
         Kind::U64 => (9, 8, false, 0, u64::MAX as i128),
-        Kind::Time => (10, 8, false, 0, LAST_TIME),
+        Kind::Time => (10, 8, false, 0, LAST_TIMESTAMP as i128),
         Kind::Wide => (11, 16, true, i128::MIN, i128::MAX),
         Kind::Text(_) => (12, 0, false, 1, 0),
     };

@@ -1,4 +1,4 @@
-// Lanes whose width and sign stand in their type.
+//! Lanes whose width and sign stand in their type.
 ghost use Rattle.std.specs.Prelude.{◌≡◌, length, IsTrue};
 ghost use Rattle.td_cols.specs.Lanes.{is_lane_width, lane_least, lane_most, fits_lane};
 ghost use Rattle.td_cols.specs.Spelling.{spelling_in, number_in};

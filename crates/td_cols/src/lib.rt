@@ -1,4 +1,4 @@
-//! Typed lanes: numbers of a fixed width as little-endian bytes.
+//! [base] Typed lanes: numbers of a fixed width as little-endian bytes.
 //!
 //! A column has a [`Kind`]. Each kind but a text has numbers of a fixed range, each of which stands as 1, 2,
 //! 4, 8 or 16 bytes. [`store`] writes such bytes and [`load`] reads them; a [`Lane`] does the same for a

@@ -1,4 +1,4 @@
-//! Grammars over the tokens of the statement language, given as data.
+//! [text] Grammars over the tokens of the statement language, given as data.
 //!
 //! A grammar is a value of `G`: which kinds of tokens, one text after the other, an option, a choice, a repetition. What it
 //! derives is defined by cases on it, with no word of reading; a text that no derivation has fails at the first token such

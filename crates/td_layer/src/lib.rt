@@ -1,6 +1,6 @@
-//! Values, keys, rows and cells, and lists that contracts see as lists.
+//! [base] Values, keys, rows and cells, and lists that contracts see as lists.
 //!
-//! Every other crate stands on this one. It promises that a list does what its name says: what `push`, `pop`,
+//! It promises that a list does what its name says: what `push`, `pop`,
 //! `insert` and `set` leave is said exactly, a copy equals what it copies, and a call that finds no memory leaves the
 //! list as it was. A [`Roomy`] list shows its spare room beside its items, so that its owner can promise that a later
 //! `push` finds memory.

@@ -8,9 +8,22 @@ use std::marker::Model;
 
 /// A type whose values can be copied, in the memory that the copy needs.
 pub trait Copied: Sized {
-    /// A copy that equals what it copies, or want of memory.
+    /// A copy that equals what it copies, or out of memory.
     fn copy(&self) -> Result<Self, NoMem>
         ensures same { IfOk result (λ c. c ≡ self.now) };
+
+    /// Copies of the items of a slice, in one allocation beside what the items need themselves, or out of memory.
+    fn copies(alloc: Global, items: &[Self]) -> Result<Vec<Self>, NoMem>
+    where
+        Self: Drop,
+        ensures all { IfOk result (λ c. c.items ≡ items.now) }
+    {
+        let mut copies = Vec::with_capacity(alloc, items.len())?;
+        for item in items {
+            copies.push(item.copy()?)?;
+        }
+        Ok(copies)
+    }
 }
 
 /// A list. Contracts see it as the list of its items, and its spare room nowhere: see [`crate::Roomy`].
@@ -74,16 +87,6 @@ impl<T> Seq<T> {
         self.items.pop()
     }
 
-    /// Takes memory for `n` further items. The items stay as they are, also where there is no memory.
-    pub fn reserve(&mut self, n: usize) -> Result<(), NoMem>
-        ensures { self.new ≡ self.old }
-    {
-        match self.items.reserve(n) {
-            Ok(()) => Ok(()),
-            Err(_) => Err(NoMem),
-        }
-    }
-
     /// How many items there are.
     pub fn len(&self) -> usize
         ensures { result ≡ length self.now }
@@ -122,6 +125,15 @@ impl<T> Seq<T> {
 }
 
 impl<T: Drop> Seq<T> {
+    /// Adds an item at the end. Where there is no memory the item is dropped and the list stays as it was.
+    pub fn add(&mut self, item: T) -> Result<(), NoMem>
+        ensures ok { OnOk result (self.new ≡ self.old ++ item ∷ []) }
+        ensures err { OnErr result (self.new ≡ self.old) }
+    {
+        self.items.push(item)?;
+        Ok(())
+    }
+
     /// Puts an item in at a place, before those from there on. Where there is no memory the list stays as it was.
     pub fn insert(&mut self, at: usize, item: T) -> Result<(), NoMem>
         requires { at ≤ length self.old }
@@ -161,14 +173,11 @@ impl Seq<u8> {
 }
 
 impl<T: Copied + Drop> Seq<T> {
-    /// A copy of the list, of copies of its items.
+    /// A copy of the list, of copies of its items, in one allocation beside what the items need themselves.
     pub fn copy(&self) -> Result<Seq<T>, NoMem>
         ensures { IfOk result (λ c. c ≡ self.now) }
     {
-        let mut items = Vec::new(self.alloc);
-        for item in self.items.as_slice() {
-            items.push(item.copy()?)?;
-        }
+        let items = T::copies(self.alloc, self.items.as_slice())?;
         Ok(Seq {
             items,
             alloc: self.alloc,

@@ -2,9 +2,9 @@
 ghost use Rattle.std.specs.Prelude.{◌≡◌, IfOk};
 
 use crate::seq::{Copied, Name, Seq};
-use std::alloc::{AllocError, AllocFailed};
+use std::alloc::{AllocError, AllocFailed, Global};
 
-/// Want of memory.
+/// Out of memory.
 #[derive(Clone, Copy, Debug, PartialEq, Eq)]
 pub struct NoMem;
 
@@ -74,11 +74,21 @@ impl Copied for u8 {
     fn copy(&self) -> Result<u8, NoMem> {
         Ok(*self)
     }
+
+    fn copies(alloc: Global, items: &[u8]) -> Result<Vec<u8>, NoMem> {
+        let copies = Vec::from_slice(alloc, items)?;
+        Ok(copies)
+    }
 }
 
 impl Copied for Value {
     fn copy(&self) -> Result<Value, NoMem> {
         Ok(*self)
+    }
+
+    fn copies(alloc: Global, items: &[Value]) -> Result<Vec<Value>, NoMem> {
+        let copies = Vec::from_slice(alloc, items)?;
+        Ok(copies)
     }
 }
 

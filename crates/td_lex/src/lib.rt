@@ -1,4 +1,4 @@
-//! The lexer of the statement language: tokens, timestamps and decimal texts.
+//! [text] The lexer of the statement language: tokens, timestamps and decimal texts.
 //!
 //! [`tokens`] reads a text as words, numbers, durations, texts in quotes, symbols and operators, which blanks may part.
 //! It promises that what it answers is the token grammar's answer: the tokens with their places, or the first place from

@@ -1,4 +1,4 @@
-//! Small devices in memory: a source, a sink, a clock, gates, and a place with its store.
+//! [run] Small devices in memory: a source, a sink, a clock, gates, and a place with its store.
 //!
 //! Each tells what it holds: the bytes that a source has left, those that a sink took, the readings that a clock has left.
 //! A source and a sink take a list of the calls that fail, and say exactly which do; a sink takes its whole room when it is

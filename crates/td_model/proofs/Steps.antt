@@ -5,7 +5,7 @@ use Rattle.td_model.specs.declared.history.What.{What}
 use Rattle.td_model.specs.declared.history.What.TheVariants as what
 use Rattle.td_model.specs.declared.history.Entry.{Entry}
 use Rattle.td_model.specs.Catalog.{table_at}
-use Rattle.td_model.specs.State.{State, row_put, latest_raised, parent_of, put_one, put_all, effect, step}
+use Rattle.td_model.specs.State.{State, row_put, latest_raised, parent_of, put_one, put_all, effect, newest, step}
 
 -- the version and the moment of one state are those of another
 pub record SameTimes (s t : State) : Type 0 where
@@ -28,20 +28,20 @@ all : (ps : List Put) (s : State) → SameTimes (put_all ps s) s
 all [] s = same s
 all (p ∷ ps) s = then (put_all ps (put_one p s)) (put_one p s) s (all ps (put_one p s)) (one p s)
 
-pub effect_times : (w : What) (s : State) → SameTimes (effect w s) s
-effect_times (what.MakeStable name schema) s = record { version = refl; moment = refl }
-effect_times (what.MakeTable name columns) s = record { version = refl; moment = refl }
-effect_times (what.MakeSub name stable tags) s = record { version = refl; moment = refl }
-effect_times (what.Put puts) s = all puts s
-effect_times (what.Cut table lo hi) s = record { version = refl; moment = refl }
-effect_times (what.Edge edge) s = record { version = refl; moment = refl }
-effect_times (what.MakeStream def) s = record { version = refl; moment = refl }
-effect_times (what.DropStream n) s = record { version = refl; moment = refl }
-effect_times (what.Step stream upto moment) s = same s
-effect_times what.Halt s = record { version = refl; moment = refl }
+pub effect_times : (past : List State) (w : What) (s : State) → SameTimes (effect past w s) s
+effect_times past (what.MakeStable name schema) s = record { version = refl; moment = refl }
+effect_times past (what.MakeTable name columns) s = record { version = refl; moment = refl }
+effect_times past (what.MakeSub name stable tags) s = record { version = refl; moment = refl }
+effect_times past (what.Put puts) s = all puts s
+effect_times past (what.Cut table lo hi) s = record { version = refl; moment = refl }
+effect_times past (what.Edge edge) s = record { version = refl; moment = refl }
+effect_times past (what.MakeStream def) s = record { version = refl; moment = refl }
+effect_times past (what.DropStream n) s = record { version = refl; moment = refl }
+effect_times past (what.Step stream upto moment) s = same s
+effect_times past what.Halt s = record { version = refl; moment = refl }
 
-pub step_version : (s : State) (e : Entry) → (step s e).version ≡ s.version + 1
-step_version s e = (effect_times e.what (record s { version = s.version + 1; moment = e.moment })).version
+pub step_version : (past : List State) (e : Entry) → (step past e).version ≡ (newest past).version + 1
+step_version past e = (effect_times past e.what (record (newest past) { version = (newest past).version + 1; moment = e.moment })).version
 
-pub step_moment : (s : State) (e : Entry) → (step s e).moment ≡ e.moment
-step_moment s e = (effect_times e.what (record s { version = s.version + 1; moment = e.moment })).moment
+pub step_moment : (past : List State) (e : Entry) → (step past e).moment ≡ e.moment
+step_moment past e = (effect_times past e.what (record (newest past) { version = (newest past).version + 1; moment = e.moment })).moment

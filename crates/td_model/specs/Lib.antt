@@ -1,3 +1,4 @@
+pub mod Built
 pub mod Catalog
 pub mod State
 pub mod Text

@@ -13,6 +13,7 @@ use Rattle.td_model.specs.declared.history.Put.{Put}
 use Rattle.td_model.specs.declared.history.What.{What}
 use Rattle.td_model.specs.declared.history.What.TheVariants as what
 use Rattle.td_model.specs.declared.history.Entry.{Entry}
+use Rattle.td_limits.specs.declared.limits.TheConstants.{DAY_RANGE}
 use Rattle.td_model.specs.Catalog.{Catalog, empty_catalog, table_at, with_what}
 
 -- keys are ordered by table, then by timestamp
@@ -47,10 +48,6 @@ pub record State : Type 0 where
 
 abbrev pub empty_state : State
 empty_state = record { version = 0; moment = 0; catalog = empty_catalog; stable_latest = []; table_latest = []; rows = []; edge = 0; halt = None }
-
--- a day range in milliseconds
-abbrev pub day_range : ℕ
-day_range = 864000000
 
 -- named values over a row's values; where there is no value below, a column that isn't named is NULL
 abbrev pub over : List (Option Value) → List Value → List Value
@@ -97,31 +94,35 @@ put_all (p ∷ ps) s = put_all ps (put_one p s)
 abbrev pub is_cut : ℕ → ℕ → ℕ → Key → Bool
 is_cut table lo hi key = (key.table == table) && (nat_le lo key.ts && nat_le key.ts hi)
 
--- what an entry does to a state that has its version and moment already
-abbrev pub effect : What → State → State
-effect (what.MakeStable name schema) s = record s { catalog = with_what (what.MakeStable name schema) s.catalog; stable_latest = s.stable_latest ++ None ∷ [] }
-effect (what.MakeTable name columns) s = record s { catalog = with_what (what.MakeTable name columns) s.catalog; table_latest = s.table_latest ++ None ∷ [] }
-effect (what.MakeSub name stable tags) s = record s { catalog = with_what (what.MakeSub name stable tags) s.catalog; table_latest = s.table_latest ++ None ∷ [] }
-effect (what.Put puts) s = put_all puts s
-effect (what.Cut table lo hi) s = record s { rows = filter (λ e. not (is_cut table lo hi e.0)) s.rows }
-effect (what.Edge edge) s = record s { edge = edge; rows = filter (λ e. nat_le (edge * day_range) e.0.ts) s.rows }
-effect (what.MakeStream def) s = record s { catalog = with_what (what.MakeStream def) s.catalog }
-effect (what.DropStream n) s = record s { catalog = with_what (what.DropStream n) s.catalog }
-effect (what.Step stream upto moment) s = s
-effect what.Halt s = record s { halt = Some s.version }
+-- What an entry does to a state that has its version and moment already. The states before the entry are given too, the
+-- newest first: a step of a stream will look at one of them.
+abbrev pub effect : List State → What → State → State
+effect past (what.MakeStable name schema) s = record s { catalog = with_what (what.MakeStable name schema) s.catalog; stable_latest = s.stable_latest ++ None ∷ [] }
+effect past (what.MakeTable name columns) s = record s { catalog = with_what (what.MakeTable name columns) s.catalog; table_latest = s.table_latest ++ None ∷ [] }
+effect past (what.MakeSub name stable tags) s = record s { catalog = with_what (what.MakeSub name stable tags) s.catalog; table_latest = s.table_latest ++ None ∷ [] }
+effect past (what.Put puts) s = put_all puts s
+effect past (what.Cut table lo hi) s = record s { rows = filter (λ e. not (is_cut table lo hi e.0)) s.rows }
+effect past (what.Edge edge) s = record s { edge = edge; rows = filter (λ e. nat_le (edge * DAY_RANGE) e.0.ts) s.rows }
+effect past (what.MakeStream def) s = record s { catalog = with_what (what.MakeStream def) s.catalog }
+effect past (what.DropStream n) s = record s { catalog = with_what (what.DropStream n) s.catalog }
+effect past (what.Step stream upto moment) s = s
+effect past what.Halt s = record s { halt = Some s.version }
 
--- the state after one more entry
-abbrev pub step : State → Entry → State
-step s e = effect e.what (record s { version = s.version + 1; moment = e.moment })
+-- ---- histories
 
--- The states of a history, the newest first, after those that were before it. An entry may look at all of them.
+-- the newest of the states so far, which stand with the newest first
 abbrev pub newest : List State → State
 newest [] = empty_state
 newest (s ∷ past) = s
 
+-- the state after one more entry, which may look at all states so far
+abbrev pub step : List State → Entry → State
+step past e = effect past e.what (record (newest past) { version = (newest past).version + 1; moment = e.moment })
+
+-- the states of a history, the newest first, after those that were before it
 abbrev pub trail : List State → List Entry → List State
 trail past [] = past
-trail past (e ∷ h) = trail (step (newest past) e ∷ past) h
+trail past (e ∷ h) = trail (step past e ∷ past) h
 
 -- the state after a history
 abbrev pub after : State → List Entry → State

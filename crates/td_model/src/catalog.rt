@@ -58,35 +58,3 @@ impl Copied for Schema {
         Ok(Schema { columns, tags })
     }
 }
-
-impl Copied for StableDef {
-    fn copy(&self) -> Result<StableDef, NoMem> {
-        let name = self.name.copy()?;
-        let schema = self.schema.copy()?;
-        Ok(StableDef { name, schema })
-    }
-}
-
-impl Copied for TableDef {
-    fn copy(&self) -> Result<TableDef, NoMem> {
-        let name = self.name.copy()?;
-        let columns = self.columns.copy()?;
-        let tags = self.tags.copy()?;
-        Ok(TableDef {
-            name,
-            parent: self.parent,
-            columns,
-            tags,
-        })
-    }
-}
-
-impl Copied for StreamEntry {
-    fn copy(&self) -> Result<StreamEntry, NoMem> {
-        let def = self.def.copy()?;
-        Ok(StreamEntry {
-            number: self.number,
-            def,
-        })
-    }
-}

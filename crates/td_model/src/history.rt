@@ -2,7 +2,7 @@
 use crate::catalog::{Column, Schema};
 use crate::language::StreamDef;
 use crate::report::Cause;
-use td_layer::{Cell, Copied, Key, Name, NoMem, Seq, Value};
+use td_layer::{Cell, Key, Name, Seq, Value};
 
 /// Values for a row, one cell a column but the timestamp; a column without a value isn't named.
 #[derive(Debug, Drop)]
@@ -61,77 +61,4 @@ pub enum Verdict {
     Accept(What, u32),
     Pass,
     Refuse(Cause),
-}
-
-impl Copied for Put {
-    fn copy(&self) -> Result<Put, NoMem> {
-        let cells = self.cells.copy()?;
-        Ok(Put {
-            key: self.key,
-            cells,
-        })
-    }
-}
-
-impl Copied for What {
-    fn copy(&self) -> Result<What, NoMem> {
-        match self {
-            What::MakeStable { name, schema } => {
-                let name = name.copy()?;
-                let schema = schema.copy()?;
-                Ok(What::MakeStable { name, schema })
-            }
-            What::MakeTable { name, columns } => {
-                let name = name.copy()?;
-                let columns = columns.copy()?;
-                Ok(What::MakeTable { name, columns })
-            }
-            What::MakeSub { name, stable, tags } => {
-                let name = name.copy()?;
-                let tags = tags.copy()?;
-                Ok(What::MakeSub {
-                    name,
-                    stable: *stable,
-                    tags,
-                })
-            }
-            What::Put(puts) => {
-                let puts = puts.copy()?;
-                Ok(What::Put(puts))
-            }
-            What::MakeStream(def) => {
-                let def = def.copy()?;
-                Ok(What::MakeStream(def))
-            }
-            What::Cut { table, lo, hi } => Ok(What::Cut {
-                table: *table,
-                lo: *lo,
-                hi: *hi,
-            }),
-            What::DropStream(number) => Ok(What::DropStream(*number)),
-            What::Edge(edge) => Ok(What::Edge(*edge)),
-            What::Step {
-                stream,
-                upto,
-                moment,
-            } => Ok(What::Step {
-                stream: *stream,
-                upto: *upto,
-                moment: *moment,
-            }),
-            What::Halt => Ok(What::Halt),
-        }
-    }
-}
-
-impl Copied for Entry {
-    fn copy(&self) -> Result<Entry, NoMem> {
-        let what = self.what.copy()?;
-        Ok(Entry {
-            session: self.session,
-            ordinal: self.ordinal,
-            moment: self.moment,
-            what,
-        })
-    }
 }

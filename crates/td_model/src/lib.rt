@@ -1,15 +1,18 @@
-//! The words of scripts, histories and reports, and the definitions that every layer above meets.
+//! [definitions] The types of statements, entries and reports, and the definitions that every layer above meets.
 //!
 //! The types are those of the statement language (`language`), of the catalog (`catalog`), of entries and verdicts
-//! (`history`), of windows and their results (`windows`), of the plan of a query (`plan`), and of reports (`report`); each
-//! that is copied promises that its copy equals what it copies. The definitions that don't go by the forms of statement stand in `specs/`, one file a subject: `Catalog`
-//! (tables, supertables and streams by name and number, and what an entry makes of them), `State` (what an entry makes of a
-//! state, and a history of all its entries), `Tags` (which subtables a comparison of a tag gives), `Text` (the bytes of a
-//! report) and `Printable` (which reports a text tells apart). Those that widen with the forms stand in `td_told`.
+//! (`history`), of windows and their results (`windows`), of the plan of a query (`plan`), and of reports (`report`); a copy
+//! equals what it copies. `built` has the one list of the forms of statement that are built. The definitions stand in
+//! `specs/`, one file a subject: `Catalog` (tables, supertables and streams by name and number, and what an entry makes of
+//! them), `State` (what an entry makes of a state, and a history of all its entries), `Built` (which statements are writes,
+//! and which are built), `Tags` (which subtables a comparison of a tag gives), `Text` (the bytes of a report) and
+//! `Printable` (which reports can be told from their texts). Those that widen with the forms of statement stand in
+//! `td_verdict` and `td_told`.
 //!
-//! It stands on `td_layer` and `td_cols`.
+//! It stands on `td_limits`, `td_layer` and `td_cols`.
 #![tactic(auto)]
 
+mod built;
 mod catalog;
 mod history;
 mod language;
@@ -17,6 +20,7 @@ mod plan;
 mod report;
 mod windows;
 
+pub use built::has_aggregate;
 pub use catalog::{Column, Schema, StableDef, StreamEntry, TableDef};
 pub use history::{Entry, Put, Verdict, What};
 pub use language::{

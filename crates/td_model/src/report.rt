@@ -157,40 +157,6 @@ pub struct Report {
     pub journal: Seq<JournalLine>,
 }
 
-impl Copied for Mark {
-    fn copy(&self) -> Result<Mark, NoMem> {
-        match self {
-            Mark::Plain => Ok(Mark::Plain),
-            Mark::Step {
-                stream,
-                upto,
-                moment,
-            } => {
-                let stream = stream.copy()?;
-                Ok(Mark::Step {
-                    stream,
-                    upto: *upto,
-                    moment: *moment,
-                })
-            }
-            Mark::Halt => Ok(Mark::Halt),
-        }
-    }
-}
-
-impl Copied for JournalLine {
-    fn copy(&self) -> Result<JournalLine, NoMem> {
-        let mark = self.mark.copy()?;
-        Ok(JournalLine {
-            version: self.version,
-            session: self.session,
-            ordinal: self.ordinal,
-            moment: self.moment,
-            mark,
-        })
-    }
-}
-
 impl Copied for Cause {
     fn copy(&self) -> Result<Cause, NoMem> {
         match self {

@@ -1,5 +1,5 @@
 //! Windows of an answer, and what a step changes of a stream's result.
-use td_layer::{Cell, Copied, NoMem, Seq};
+use td_layer::{Cell, Seq};
 
 /// A window: the key of its partition, and its start in milliseconds since 1970.
 #[derive(Debug, Drop)]
@@ -21,34 +21,4 @@ pub struct WinRow {
 pub struct Delta {
     pub removed: Seq<WinKey>,
     pub added: Seq<WinRow>,
-}
-
-impl Copied for WinKey {
-    fn copy(&self) -> Result<WinKey, NoMem> {
-        let part = self.part.copy()?;
-        Ok(WinKey {
-            part,
-            start: self.start,
-        })
-    }
-}
-
-impl Copied for WinRow {
-    fn copy(&self) -> Result<WinRow, NoMem> {
-        let key = self.key.copy()?;
-        let cells = self.cells.copy()?;
-        Ok(WinRow {
-            key,
-            end: self.end,
-            cells,
-        })
-    }
-}
-
-impl Copied for Delta {
-    fn copy(&self) -> Result<Delta, NoMem> {
-        let removed = self.removed.copy()?;
-        let added = self.added.copy()?;
-        Ok(Delta { removed, added })
-    }
 }

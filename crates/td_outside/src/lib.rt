@@ -1,4 +1,4 @@
-//! What the program meets outside: a source, a sink, a clock, a gate, and a place with its store.
+//! [base] What the program meets outside: a source, a sink, a clock, a gate, and a place with its store.
 //!
 //! Each is a trait whose ghost members are its meaning: the bytes that a source has left, those that a sink took, the
 //! readings that a clock has left. A meaning is optional: a device in memory tells it, a real one doesn't. Each counts

@@ -1,4 +1,4 @@
-//! Statements: which texts are one, and with which trees.
+//! [text] Statements: which texts are one, and with which trees.
 //!
 //! `statement` gives the tree of a text, or why it has none. The grammar is stated on whole texts, as a relation between
 //! tokens and trees (`specs/Productions`, one production a line); which texts are statements, where a text fails first, and

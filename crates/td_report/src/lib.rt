@@ -1,4 +1,4 @@
-//! The bytes of a report.
+//! [run] The bytes of a report.
 //!
 //! [`report`] writes what a run tells, line by line: the version it began at, a line for each reply, a line for each
 //! live stream, and the journal. It promises exactly the text that `report_text` of `td_model` gives: every reply,

@@ -1,4 +1,4 @@
-//! Rows by key: found by search, put whole or not at all, and read by the range of a table.
+//! [store] Rows by key: found by search, put whole or not at all, and read by the range of a table.
 //!
 //! [`RowMap`] is what keeps rows by key. [`OrderedRows`] finds a row, and the first row of a range, by search;
 //! [`ListedRows`] walks a list, to compare with. Both promise the same: a row is found as the definitions find it; puts lay

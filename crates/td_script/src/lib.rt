@@ -1,4 +1,4 @@
-//! Scripts: which bytes are a script, and the statement lines that it has.
+//! [text] Scripts: which bytes are a script, and the statement lines that it has.
 //!
 //! [`script`] cuts bytes into lines and tells of each what it is: nothing, a comment, a phase line, or a statement of one
 //! of 64 sessions. It promises that what it answers is the definition's answer, `specs/Script.antt`: exactly the

@@ -1,4 +1,4 @@
-//! Texts of the statement language, each with its tree or its cause: the table by which `td_parse::statement` is tested.
+//! [tests] Texts of the statement language, each with its tree or its cause: the table by which `td_parse::statement` is tested.
 //!
 //! The answers are the language's, worked out by hand, and no output of the program. A tree is compared by its printed form
 //! (`printed`), which tells any two trees of these tables apart. The crate has tests alone and promises nothing.

@@ -1,4 +1,4 @@
-//! The state that a script is played on: a catalog with its index of tags, rows by key, and a statement's turn on them.
+//! [run] The state that a script is played on: a catalog with its index of tags, rows by key, and a statement's turn on them.
 //!
 //! [`Tables`] stands for a state of `td_model`. [`Tables::turn`] judges a statement in it and does what it is accepted for:
 //! the reply, the journal's line and the next state are those that the verdict gives (`TurnAnswers` of `td_told`), or there

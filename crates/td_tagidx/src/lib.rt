@@ -1,4 +1,4 @@
-//! The index of tags: which subtables have a tag that passes a comparison.
+//! [binding] The index of tags: which subtables have a tag that passes a comparison.
 //!
 //! A [`TagIndex`] keeps the tags of subtables and answers a comparison on a tag with the numbers of the subtables that pass. It
 //! changes in two steps, as a catalog does: [`TagIndex::prepare`] takes all the memory that a subtable needs, and

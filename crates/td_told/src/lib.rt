@@ -1,4 +1,4 @@
-//! What a statement meets in a state, and when a report tells the run of a script.
+//! [definitions] What a statement meets in a state, and when a report tells the run of a script.
 //!
 //! The definitions stand in `specs/`, one file a subject: `Verdict` (what a statement meets in a state, and what a query
 //! answers), `Asked` (the statements of a script with their sessions and ordinals), `Times` (moments beside the readings of a

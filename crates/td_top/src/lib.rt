@@ -1,4 +1,4 @@
-//! The top call: reads a script, plays it on a state, and writes the report.
+//! [run] The top call: reads a script, plays it on a state, and writes the report.
 //!
 //! [`vnode`] takes the program's words and [`play`] the command of that name. At `Done` the input was read to its end and
 //! is a script, and the bytes written are the text of exactly one report, which tells the script's run in the order of its

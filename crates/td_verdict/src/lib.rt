@@ -1,4 +1,4 @@
-//! What a statement meets in a catalog, and what a query answers: the definitions.
+//! [definitions] What a statement meets in a catalog, and what a query answers: the definitions.
 //!
 //! They stand in `specs/`, one file a subject. Of verdicts: `Causes` (the one order of the causes), `Names` (which names are
 //! taken, and what they name), `Values` (what a literal says at a column or a tag), `Writes` (what each form of a write

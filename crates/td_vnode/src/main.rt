@@ -1,4 +1,4 @@
-//! The program: it makes the real devices, calls `vnode`, prints the status' line and ends with its number.
+//! [run] The program: it makes the real devices, calls `vnode`, prints the status' line and ends with its number.
 //!
 //! It stands on `td_top` for all that it does, and on `td_realdev` for the devices.
 #![tactic(auto)]

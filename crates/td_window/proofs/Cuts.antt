@@ -1,7 +1,7 @@
 -- How a list is cut where its first group is known, and how lists of places divide.
 use Rattle.std.proofs.Common.{◌≡◌, ℕ, zero, suc, ◌+◌, ◌-◌, ◌<◌, ◌≤◌, Bool, true, false, cond, List, [], ◌∷◌, ◌++◌, map, filter, refl, sym, ap, ◌∙◌, subst, arith}
 use Rattle.std.specs.List.{range_with_len}
-use Rattle.td_layer.specs.Windows.{cut, led_by, last_of}
+use Rattle.td_window.specs.Windows.{cut, led_by, last_of}
 
 -- ---- lists of places
 pub range-append : (a m n : ℕ) → range_with_len a (m + n) ≡ range_with_len a m ++ range_with_len (a + m) n

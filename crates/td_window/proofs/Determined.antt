@@ -2,7 +2,7 @@
 use Rattle.std.proofs.Common.{◌≡◌, ◌⊎◌, ℕ, zero, suc, ◌<ℤ◌, List, [], ◌∷◌, refl, sym, ap, ◌∙◌, subst, arith, inl, inr, Contains}
 use Rattle.std.proofs.lemmas.Int.{ints}
 use Rattle.std.specs.List.{AllByRecursion}
-use Rattle.td_layer.specs.Windows.{Window, StartsRise, IsIntervalWindow, AreIntervalWindows}
+use Rattle.td_window.specs.Windows.{Window, StartsRise, IsIntervalWindow, AreIntervalWindows}
 
 module _ {A : Type 0} where
   in_cons : (v : A) (vs : List A) (w : A) → Contains (v ∷ vs) w → (v ≡ w) ⊎ Contains vs w

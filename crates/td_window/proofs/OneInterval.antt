@@ -7,7 +7,7 @@ use Rattle.std.proofs.lemmas.List.Elements.{filter-append, Contains-push, Contai
 use Rattle.std.proofs.Math.Nat.{mul-le-mul_right, add-mul}
 use Rattle.std.specs.List.{range_with_len, AllByRecursion}
 use Rattle.std.specs.List.Sorted.{IsNonDecreasing}
-use Rattle.td_layer.specs.Windows.{Window, is_within, interval_window, IsStart, StartsRise, IsIntervalWindow, AreIntervalWindows}
+use Rattle.td_window.specs.Windows.{Window, is_within, interval_window, IsStart, StartsRise, IsIntervalWindow, AreIntervalWindows}
 use Rattle.td_window.specs.Spans.{time_at, window_of, places}
 use Rattle.td_window.specs.declared.span.Span.{Span}
 use Rattle.td_window.proofs.Cuts.{range_at, range_first, filter_no_range, filter_whole_range}

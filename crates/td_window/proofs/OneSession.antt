@@ -2,7 +2,7 @@
 use Rattle.std.proofs.Common.{◌≡◌, ℕ, zero, suc, ◌+◌, ◌-◌, ◌<◌, ◌≤◌, pos, Bool, true, List, ◌∷◌, ◌++◌, map, length, sym, ap, ◌∙◌, arith, ltb}
 use Rattle.std.proofs.lemmas.Bool.Decides.{nat_tests}
 use Rattle.std.specs.List.{range_with_len}
-use Rattle.td_layer.specs.Windows.{Window, cut, last_of, window_of_group, session_windows}
+use Rattle.td_window.specs.Windows.{Window, cut, last_of, window_of_group, session_windows}
 use Rattle.td_window.specs.Spans.{time_at, span_between, window_of}
 use Rattle.td_window.proofs.Cuts.{IsRun, cut_run, range_at, range_first, Ends-range, last_place}
 

@@ -6,7 +6,7 @@ use Rattle.std.specs.Ordering.{int_eq}
 use Rattle.std.specs.List.{range_with_len}
 use Rattle.td_layer.specs.declared.values.Value.{Value}
 use Rattle.td_layer.specs.declared.values.Value.TheVariants.{Null, Num}
-use Rattle.td_layer.specs.Windows.{Window, cut, last_of, window_of_group, state_windows, isnt_null, is_same_state}
+use Rattle.td_window.specs.Windows.{Window, cut, last_of, window_of_group, state_windows, isnt_null, is_same_state}
 use Rattle.td_window.specs.Spans.{time_at, span_between, state_at, window_with_states, places}
 use Rattle.td_window.proofs.Cuts.{IsRun, Ends, cut_run, range_at, range_first, range_last, filter_no_range, last_of-append}
 

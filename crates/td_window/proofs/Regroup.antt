@@ -5,7 +5,7 @@ use Rattle.std.proofs.lemmas.List.{take_all, length-map, get_or-map}
 use Rattle.std.specs.List.{range_with_len, AllByRecursion}
 use Rattle.td_layer.specs.declared.values.Value.{Value}
 use Rattle.td_layer.specs.declared.values.Value.TheVariants.{Null}
-use Rattle.td_layer.specs.Windows.{Window, cut, led_by, last_of, window_of_group, session_windows, state_windows, isnt_null, is_same_state, is_within, interval_window, StartsRise, IsIntervalWindow, AreIntervalWindows}
+use Rattle.td_window.specs.Windows.{Window, cut, led_by, last_of, window_of_group, session_windows, state_windows, isnt_null, is_same_state, is_within, interval_window, StartsRise, IsIntervalWindow, AreIntervalWindows}
 use Rattle.td_window.specs.Spans.{places, time_at, state_at, window_of, window_with_states, window_over, window_over_states, IsInside}
 use Rattle.td_window.specs.declared.span.Span.{Span}
 

@@ -5,7 +5,7 @@ use Rattle.td_layer.specs.declared.values.Key.{Key}
 use Rattle.td_layer.specs.declared.values.Row.{Row}
 use Rattle.td_layer.specs.declared.values.Value.{Value}
 use Rattle.td_layer.specs.declared.values.Value.TheVariants.{Null}
-use Rattle.td_layer.specs.Windows.{Window, isnt_null}
+use Rattle.td_window.specs.Windows.{Window, isnt_null}
 use Rattle.td_window.specs.declared.span.Span.{Span}
 
 -- the places of a slice of so many rows

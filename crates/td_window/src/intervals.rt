@@ -1,12 +1,13 @@
 //! Interval windows.
 ghost use Rattle.std.specs.Prelude.{◌≡◌, ℕ, ◌+◌, ◌-◌, ◌*◌, ◌%◌, ◌<◌, ◌≤◌, IfOk, All, length, map, slice_index};
 ghost use Rattle.std.specs.List.Sorted.{IsNonDecreasing};
-ghost use Rattle.td_layer.specs.Windows.{AreIntervalWindows};
+ghost use Rattle.td_window.specs.Windows.{AreIntervalWindows};
 ghost use Rattle.td_window.specs.Spans.{places, time_at, window_of, IsInside};
 
-use crate::span::{LATEST, LONGEST, Span, span_ending};
+use crate::span::{Span, span_ending};
 use std::alloc::Global;
 use td_layer::{NoMem, Seq};
+use td_limits::{LAST_TIMESTAMP, LONGEST_DURATION};
 
 /// The interval windows of rows at timestamps that don't fall. Windows start at `offset + j * slide` for every whole j,
 /// also below 0, and take the rows from there on and before the end, `len` later; those that hold a row are given, by
@@ -19,8 +20,8 @@ pub fn interval(
     slide: u64,
 ) -> Result<Seq<Span>, NoMem>
     requires in_order { IsNonDecreasing ts.now }
-    requires in_range { All (λ t. t ≤ LATEST) ts.now }
-    requires length { len ≤ LONGEST }
+    requires in_range { All (λ t. t ≤ LAST_TIMESTAMP) ts.now }
+    requires length { len ≤ LONGEST_DURATION }
     requires offset { offset < len }
     requires slide { (0 < slide) × (slide ≤ len) }
     ensures windows { IfOk result (λ spans. AreIntervalWindows (time_at ts.now) len offset slide (places (length ts.now)) (map window_of spans)) }
@@ -44,8 +45,8 @@ pub fn interval(
 /// The least end of a window that is greater than a timestamp, where the ends are those of `phase + q * slide` for the
 /// whole q from 0 on.
 fn end_past(t: u64, phase: u64, slide: u64) -> u64
-    requires in_range { t ≤ LATEST }
-    requires slide { (0 < slide) × (slide ≤ LONGEST) }
+    requires in_range { t ≤ LAST_TIMESTAMP }
+    requires slide { (0 < slide) × (slide ≤ LONGEST_DURATION) }
     requires phase { phase < slide }
     ensures is_end { (q : ℕ) × (result ≡ phase + q * slide) }
     ensures past { t < result }

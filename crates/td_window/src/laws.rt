@@ -3,7 +3,7 @@ ghost use Rattle.std.specs.Prelude.{◌≡◌, ℕ, List, map, length, All};
 ghost use Rattle.td_layer.specs.declared.values.Key.{Key};
 ghost use Rattle.td_layer.specs.declared.values.Row.{Row};
 ghost use Rattle.td_layer.specs.declared.values.Value.{Value};
-ghost use Rattle.td_layer.specs.Windows.{Window, AreIntervalWindows, session_windows, state_windows};
+ghost use Rattle.td_window.specs.Windows.{Window, AreIntervalWindows, session_windows, state_windows};
 ghost use Rattle.td_window.specs.declared.span.Span.{Span};
 ghost use Rattle.td_window.specs.Spans.{places, time_at, state_at, window_of, window_with_states, window_over, window_over_states, IsInside, time_of};
 

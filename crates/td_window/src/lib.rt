@@ -1,11 +1,11 @@
-//! Windows over rows whose timestamps don't fall.
+//! [base] Windows over rows whose timestamps don't fall.
 //!
 //! [`interval`], [`session`] and [`state`] cut a slice of timestamps into windows, each in one pass, and give a [`Span`]
 //! for each. It is promised that the spans are exactly the windows that hold a row, in order, each with exactly its
 //! rows, and that nothing overflows. The room that they take grows with the number of windows; want of memory is the
 //! only way to fail.
 //!
-//! It stands on `td_layer`, which has the lists and the values, and says what each kind of window is.
+//! What each kind of window is stands in `specs/Windows`. The crate stands on `td_limits` and `td_layer`.
 #![tactic(auto)]
 
 mod intervals;
@@ -17,5 +17,5 @@ mod states;
 pub use intervals::interval;
 pub use laws::{interval_windows_are_determined, spans_group_rows};
 pub use sessions::session;
-pub use span::{LATEST, LONGEST, Span};
+pub use span::Span;
 pub use states::state;

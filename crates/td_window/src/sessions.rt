@@ -1,18 +1,19 @@
 //! Sessions.
 ghost use Rattle.std.specs.Prelude.{◌≡◌, ℕ, ◌+◌, ◌-◌, ◌<◌, ◌≤◌, IfOk, All, length, map, slice_index};
 ghost use Rattle.std.specs.List.Sorted.{IsNonDecreasing};
-ghost use Rattle.td_layer.specs.Windows.{session_windows};
+ghost use Rattle.td_window.specs.Windows.{session_windows};
 ghost use Rattle.td_window.specs.Spans.{places, time_at, window_of, IsInside};
 
-use crate::span::{LATEST, Span, span_between};
+use crate::span::{Span, span_between};
 use std::alloc::Global;
 use td_layer::{NoMem, Seq};
+use td_limits::LAST_TIMESTAMP;
 
 /// The sessions of rows at timestamps that don't fall: the list of rows, cut between neighbours whose gap is greater
 /// than the tolerance, in milliseconds. A session starts at its first timestamp and ends at its last.
 pub fn session(alloc: Global, ts: &[u64], tol: u64) -> Result<Seq<Span>, NoMem>
     requires in_order { IsNonDecreasing ts.now }
-    requires in_range { All (λ t. t ≤ LATEST) ts.now }
+    requires in_range { All (λ t. t ≤ LAST_TIMESTAMP) ts.now }
     ensures windows { IfOk result (λ spans. map window_of spans ≡ session_windows (time_at ts.now) tol (places (length ts.now))) }
     ensures inside { IfOk result (All (IsInside (length ts.now))) }
 {

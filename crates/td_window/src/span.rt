@@ -2,11 +2,7 @@
 ghost use Rattle.std.specs.Prelude.{◌≡◌, ◌+◌, ◌≤◌, ◌<◌, All, length};
 ghost use Rattle.td_window.specs.Spans.{span_between, span_ending};
 
-/// The latest timestamp that a row can have, in milliseconds since 1970: the end of the year 9999.
-pub const LATEST: u64 = 253_402_300_799_999;
-
-/// The longest interval, in milliseconds: 10,000 years.
-pub const LONGEST: u64 = 315_360_000_000_000;
+use td_limits::{LAST_TIMESTAMP, LONGEST_DURATION};
 
 /// A window over a slice of timestamps: from where to where it goes, in milliseconds since 1970, and the range of
 /// places in the slice at which its rows stand: `rows` of them, from `first` on.
@@ -20,7 +16,7 @@ pub struct Span {
 
 /// The span of the rows from one place to another, from the timestamp of the first to that of the last.
 pub(crate) fn span_between(ts: &[u64], first: usize, last: usize) -> Span
-    requires in_range { All (λ t. t ≤ LATEST) ts.now }
+    requires in_range { All (λ t. t ≤ LAST_TIMESTAMP) ts.now }
     requires places { (first ≤ last) × (last < length ts.now) }
     ensures { result ≡ span_between ts.now first last }
 {
@@ -34,8 +30,8 @@ pub(crate) fn span_between(ts: &[u64], first: usize, last: usize) -> Span
 
 /// The span of the rows from one place on and before another, of a window with this end and length.
 pub(crate) fn span_ending(end: u64, len: u64, first: usize, past: usize) -> Span
-    requires end { end ≤ LATEST + LONGEST }
-    requires length { len ≤ LONGEST }
+    requires end { end ≤ LAST_TIMESTAMP + LONGEST_DURATION }
+    requires length { len ≤ LONGEST_DURATION }
     requires places { first ≤ past }
     ensures { result ≡ span_ending end len first past }
 {

@@ -1,19 +1,20 @@
 //! State windows.
 ghost use Rattle.std.specs.Prelude.{◌≡◌, ◌≢◌, ◌⊎◌, ℕ, ◌+◌, ◌-◌, ◌<◌, ◌≤◌, IfOk, All, length, map, not};
 ghost use Rattle.td_layer.specs.declared.values.Value.TheVariants as value;
-ghost use Rattle.td_layer.specs.Windows.{state_windows, isnt_null};
+ghost use Rattle.td_window.specs.Windows.{state_windows, isnt_null};
 ghost use Rattle.td_window.specs.Spans.{places, time_at, state_at, window_with_states, IsInside};
 
-use crate::span::{LATEST, Span, span_between};
+use crate::span::{Span, span_between};
 use std::alloc::Global;
 use td_layer::{NoMem, Seq, Value};
+use td_limits::LAST_TIMESTAMP;
 
 /// The state windows of rows with these timestamps and states: the rows whose state isn't NULL, cut between neighbours
 /// of unequal state. A window starts at the timestamp of its first row and ends at that of its last. The places from
 /// the first to the last of these rows are the span's; a row among them whose state is NULL is not of the window.
 pub fn state(alloc: Global, ts: &[u64], values: &[Value]) -> Result<Seq<Span>, NoMem>
     requires same_length { length ts.now ≡ length values.now }
-    requires in_range { All (λ t. t ≤ LATEST) ts.now }
+    requires in_range { All (λ t. t ≤ LAST_TIMESTAMP) ts.now }
     ensures windows { IfOk result (λ spans. map (window_with_states values.now) spans ≡ state_windows (time_at ts.now) (state_at values.now) (places (length ts.now))) }
     ensures inside { IfOk result (All (IsInside (length ts.now))) }
     ensures first { IfOk result (All (λ s. state_at values.now s.first ≢ value.Null)) }

@@ -1,4 +1,4 @@
-//! Which words are a command of the program.
+//! [run] Which words are a command of the program.
 //!
 //! [`read_command`] gives the command of the words, or none: so far `play` and one directory, whose name isn't empty and doesn't
 //! begin with `-`. A word that begins with `-` makes no command. The rest of the words' grammar is told to `clap`, and its

@@ -1,5 +1,5 @@
 use Rattle.std.proofs.Common.{◌+◌, ◌-◌, length, map, All}
-use Rattle.td_window.specs.declared.span.TheConstants.{LATEST}
+use Rattle.td_limits.specs.declared.limits.TheConstants.{LAST_TIMESTAMP}
 use Rattle.td_window.specs.Spans.{window_of, IsInside}
 use Rattle.td_window.proofs.OneInterval.{Loop}
 use Rattle.td_window.proofs.intervals.interval.Given as goal
@@ -11,4 +11,4 @@ invariant-windows l = record {
 }
 
 abbrev pub decreases-windows : goal.decreases-windows
-decreases-windows l = LATEST + l.len + 1 - l.end
+decreases-windows l = LAST_TIMESTAMP + l.len + 1 - l.end

@@ -1,5 +1,5 @@
 use Rattle.std.proofs.Common.{◌≡◌, ◌-◌, ◌≤◌, ◌++◌, length, map, All}
-use Rattle.td_layer.specs.Windows.{session_windows}
+use Rattle.td_window.specs.Windows.{session_windows}
 use Rattle.td_window.specs.Spans.{places, time_at, window_of, IsInside}
 use Rattle.td_window.proofs.OneSession.{sessions_from}
 use Rattle.td_window.proofs.sessions.session.Given as goal

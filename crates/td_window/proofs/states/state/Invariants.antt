@@ -1,6 +1,6 @@
 use Rattle.std.proofs.Common.{◌≡◌, ◌≢◌, ◌+◌, ◌-◌, ◌<◌, ◌≤◌, ◌++◌, length, map, All}
 use Rattle.td_layer.specs.declared.values.Value.TheVariants.{Null}
-use Rattle.td_layer.specs.Windows.{state_windows}
+use Rattle.td_window.specs.Windows.{state_windows}
 use Rattle.td_window.specs.Spans.{places, time_at, state_at, window_with_states, IsInside}
 use Rattle.td_window.proofs.OneState.{states_from}
 use Rattle.td_window.proofs.states.state.Given as goal
