@@ -1,11 +1,9 @@
-pub mod Fronts
-pub mod Numerals
-pub mod Tells
-pub mod Again
-pub mod Readings
-pub mod ShortNumbers
-pub mod DayNumbers
-pub mod StampsRead
-pub mod OneAnswer
-pub mod Places
-pub mod Printed
+mod Fronts
+mod Numerals
+mod Tells
+mod Again
+mod Readings
+mod OneAnswer
+mod Places
+mod Printed
+pub mod LawsOfTokens

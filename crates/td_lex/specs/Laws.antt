@@ -1,10 +1,8 @@
--- Words of the laws of tokens and timestamps.
-use Rattle.std.specs.Prelude.{ℕ, ◌+◌, ◌*◌, ◌/◌, ◌%◌, ◌<◌, ◌≤◌, ℤ, pos, ◌+ℤ◌, ◌*ℤ◌, List, [], ◌∷◌, ◌++◌, length, map, slice_range}
-use Rattle.jiff_core.specs.Calendar.{IsCivilDate, days_from_civil}
+-- Words of the laws of tokens.
+use Rattle.std.specs.Prelude.{◌≡◌, ◌⊎◌, ℕ, ◌+◌, ◌<◌, ◌≤◌, List, [], ◌∷◌, ◌++◌, length, map, slice_range}
 use Rattle.td_lex.specs.declared.kinds.Token.{Token}
 use Rattle.td_lex.specs.declared.kinds.Spanned.{Spanned}
-use Rattle.td_lex.specs.Tokens.{IsToken}
-use Rattle.td_lex.specs.Times.{Stamp}
+use Rattle.td_lex.specs.Tokens.{IsToken, NoToken, WideFirst}
 
 -- From a place on the spans are in order and within the text, and each is the text of its token.
 abbrev pub AreSpans : List ℕ → ℕ → List Spanned → Type 0
@@ -22,37 +20,10 @@ moved_token n t = record { token = t.token; at = n + t.at; end = n + t.end }
 abbrev pub moved : ℕ → List Spanned → List Spanned
 moved n ts = map (moved_token n) ts
 
--- the digits of a number, with zeros on the left
-abbrev pub two_digits : ℕ → List ℕ
-two_digits n = (48 + n / 10) ∷ (48 + n % 10) ∷ []
+-- the first tokens are a front of the others
+abbrev pub IsFront : List Spanned → List Spanned → Type 0
+IsFront ts us = (back : List Spanned) × (us ≡ ts ++ back)
 
-abbrev pub three_digits : ℕ → List ℕ
-three_digits n = (48 + n / 100) ∷ two_digits (n % 100)
-
-abbrev pub four_digits : ℕ → List ℕ
-four_digits n = two_digits (n / 100) ++ two_digits (n % 100)
-
--- a date and a time of day
-pub record Moment : Type 0 where
-  pub year : ℕ
-  pub month : ℕ
-  pub day : ℕ
-  pub hour : ℕ
-  pub minute : ℕ
-  pub second : ℕ
-  pub millisecond : ℕ
-
-pub record Exists (m : Moment) : Type 0 where
-  pub date : IsCivilDate (pos m.year) m.month m.day
-  pub hour : m.hour < 24
-  pub minute : m.minute < 60
-  pub second : m.second < 60
-  pub millisecond : m.millisecond < 1000
-
--- its full form, with three digits of a fraction
-abbrev pub full : Moment → Stamp
-full m = record { year = four_digits m.year; month = two_digits m.month; day = two_digits m.day; hour = two_digits m.hour; minute = two_digits m.minute; second = two_digits m.second; fraction = three_digits m.millisecond }
-
--- the milliseconds since 1970
-abbrev pub since_1970 : Moment → ℤ
-since_1970 m = pos 86400000 *ℤ days_from_civil (pos m.year) m.month m.day +ℤ pos (((m.hour * 60 + m.minute) * 60 + m.second) * 1000 + m.millisecond)
+-- Reading goes no further: the text ends, or what stands there is no token, or too wide a one.
+abbrev pub Stops : List ℕ → Type 0
+Stops text = (text ≡ []) ⊎ (NoToken text ⊎ WideFirst text)

@@ -42,15 +42,6 @@ pub enum LexFault {
     NoMemory,
 }
 
-/// Why a text is not read as a timestamp.
-#[derive(Clone, Copy, Debug, PartialEq, Eq)]
-pub enum TimeFault {
-    /// The text is not of the form, or its day or time of day does not exist.
-    BadTime,
-    /// There is no memory. [`crate::timestamp`] takes none, so it never answers this.
-    NoMemory,
-}
-
 /// Why no token was read at the front of a text.
 #[derive(Clone, Copy, Debug, PartialEq, Eq)]
 pub(crate) enum Stop {

@@ -1,5 +1,5 @@
-//! What holds of every text: laws of the tokens' and the timestamps' definitions.
-ghost use Rattle.std.specs.Prelude.{◌≡◌, ◌≢◌, ℕ, ◌+◌, ℤ, List, [], ◌∷◌, ◌++◌, length, take, true, Result, FitsSigned};
+//! What holds of every text: laws of the tokens' definition.
+ghost use Rattle.std.specs.Prelude.{◌≡◌, ◌≢◌, ◌⊎◌, ℕ, ◌+◌, ℤ, List, [], ◌∷◌, ◌++◌, length, take, true, Result, FitsSigned};
 ghost use Rattle.std.specs.Int.{w128};
 ghost use Rattle.std.specs.Fmt.{signed_decimal};
 ghost use Rattle.td_lex.specs.declared.kinds.Token.{Token};
@@ -7,13 +7,22 @@ ghost use Rattle.td_lex.specs.declared.kinds.Spanned.{Spanned};
 ghost use Rattle.td_lex.specs.declared.kinds.LexFault.{LexFault};
 ghost use Rattle.td_lex.specs.declared.kinds.LexFault.TheVariants.{NoMemory};
 ghost use Rattle.td_lex.specs.Tokens.{is_blank, IsToken, Reads, IsTokens, Answers};
-ghost use Rattle.td_lex.specs.Times.{stamp_text, IsTimestamp};
-ghost use Rattle.td_lex.specs.Laws.{alone, moved, Moment, Exists, full, since_1970};
+ghost use Rattle.td_lex.specs.Laws.{alone, moved, IsFront, Stops};
 
 /// A text has one answer other than want of memory: its tokens are the only ones, a text of tokens has no failure, and
 /// the first failure is one, in its place and its cause.
 pub fn one_answer()
     ensures { (text : List ℕ) (a b : Result (List Spanned) LexFault) → a ≢ Err NoMemory → b ≢ Err NoMemory → Answers text a → Answers text b → a ≡ b }
+{}
+
+/// Of the tokens that are read from one place, some are a front of the others, however far each is read.
+pub fn one_front()
+    ensures { (at : ℕ) (text rest last : List ℕ) (ts us : List Spanned) → Reads at text ts rest → Reads at text us last → IsFront ts us ⊎ IsFront us ts }
+{}
+
+/// Where reading goes no further, all tokens that are read from the same place are a front of those up to there.
+pub fn read_to_a_stop()
+    ensures { (at : ℕ) (text rest last : List ℕ) (ts us : List Spanned) → Reads at text ts rest → Reads at text us last → Stops last → IsFront ts us }
 {}
 
 /// A token's text alone is that token.
@@ -40,14 +49,4 @@ pub fn joined_by_a_blank()
 /// A number's decimal text is read as the number.
 pub fn printed_number()
     ensures { (n : ℤ) → FitsSigned w128 n → IsTokens (signed_decimal n) (alone (Token.Num n) (length (signed_decimal n))) }
-{}
-
-/// A text says one time at most.
-pub fn one_time()
-    ensures { (text : List ℕ) (m n : ℤ) → IsTimestamp text m → IsTimestamp text n → m ≡ n }
-{}
-
-/// The full form of a moment is read as that moment.
-pub fn printed_time()
-    ensures { (m : Moment) → Exists m → IsTimestamp (stamp_text (full m)) (since_1970 m) }
 {}

@@ -3,18 +3,20 @@ ghost use Rattle.std.specs.Prelude.{◌≡◌, ◌<◌, ◌≤◌, ◌^◌, leng
 ghost use Rattle.std.specs.Char.{is_ascii_digit};
 ghost use Rattle.std.specs.List.{list_all};
 ghost use Rattle.std.specs.Option.{option_map};
+ghost use Rattle.std.specs.Result.{result_ok};
 ghost use Rattle.jiff_core.specs.Calendar.{IsEpochDay};
-ghost use Rattle.td_lex.specs.Times.{SaysTime};
-ghost use Rattle.td_lex.specs.Stamps.{number_of, digits_at, past_byte, day_number_of, date_of, second_of, clock_of, fraction_of, timestamp_of};
+ghost use Rattle.td_times.specs.Times.{SaysTime};
+ghost use Rattle.td_times.specs.Stamps.{number_of, digits_at, past_byte, day_number_of, date_of, second_of, clock_of, fraction_of, timestamp_of};
 
-use crate::kinds::TimeFault;
+use crate::fault::TimeFault;
 use jiff_core::civil::Date;
 
 /// The milliseconds since 1970 that a timestamp's text says, read as UTC: `YYYY-MM-DD HH:MM:SS`, with a point and one to
 /// three digits behind it or none. The years are 0000 to 9999, and before 1970 the number is negative. Every other text is
 /// `BadTime`, also one with a day or a time of day that does not exist.
 pub fn timestamp(text: &[u8]) -> Result<i64, TimeFault>
-    ensures { SaysTime text.now result }
+    ensures says { SaysTime text.now result }
+    ensures read { result_ok result ≡ timestamp_of text.now }
 {
     stamp(text).ok_or(TimeFault::BadTime)
 }

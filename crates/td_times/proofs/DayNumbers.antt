@@ -1,16 +1,9 @@
 -- The number of a day that the calendar has.
 use Rattle.std.proofs.Common.{◌≡◌, ℕ, ℤ, pos, ◌≤◌, true, ◌&&◌, nat_le, Some, refl, arith}
-use Rattle.std.proofs.lemmas.Bool.Decides.{nat_tests}
 use Rattle.std.proofs.lemmas.Int.{ints}
 use Rattle.jiff_core.specs.Calendar.{IsDate, days_in_month, days_from_civil}
-use Rattle.td_lex.specs.Stamps.{is_civil_date, day_number_of}
-use Rattle.td_lex.proofs.Fronts.{together}
-
-pub leb_yes : (a b : ℕ) → a ≤ b → nat_le a b ≡ true
-leb_yes a b h = grind (arith, nat_tests)
-
-pub leb_says : (a b : ℕ) → nat_le a b ≡ true → a ≤ b
-leb_says a b h = grind (arith, nat_tests)
+use Rattle.td_times.specs.Stamps.{is_civil_date, day_number_of}
+use Rattle.td_times.proofs.Tests.{together, leb_yes}
 
 pub passes : (y m d : ℕ) → y ≤ 9999 → 1 ≤ m → m ≤ 12 → 1 ≤ d → d ≤ days_in_month (pos y) m → is_civil_date y m d ≡ true
 passes y m d a b c e f =

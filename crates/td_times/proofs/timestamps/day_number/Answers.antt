@@ -2,8 +2,8 @@ use Rattle.std.proofs.Common.{◌≡◌, ◌∙◌, ap, arith, refl, ℤ, pos, S
 use Rattle.std.specs.Int.{w16}
 use Rattle.std.proofs.lemmas.Int.{to_z-of_z, ints}
 use Rattle.jiff_core.specs.Calendar.{IsDate}
-use Rattle.td_lex.proofs.DayNumbers.{civil_day}
-use Rattle.td_lex.proofs.times.day_number.Goals as goal
+use Rattle.td_times.proofs.DayNumbers.{civil_day}
+use Rattle.td_times.proofs.timestamps.day_number.Goals as goal
 
 pub returns-in-Ok-clause-value : goal.returns-in-Ok-clause-value
 returns-in-Ok-clause-value c =

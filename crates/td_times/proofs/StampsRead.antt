@@ -1,6 +1,7 @@
 -- Reading a timestamp from left to right finds what the rule has, and nothing else.
 use Rattle.std.proofs.Common.{◌≡◌, ℕ, ℤ, pos, ◌+◌, ◌*◌, ◌≤◌, ◌<◌, ◌^◌, ◌+ℤ◌, ◌*ℤ◌, Bool, true, false, cond, ◌&&◌, ◌==◌, nat_le, nat_lt, List, [], ◌∷◌, ◌++◌, length, take, drop, Option, Some, None, refl, sym, ap, subst, ◌∙◌, arith, append_assoc, length-append}
 use Rattle.std.specs.Option.{option_map, ok_or}
+use Rattle.std.specs.Result.{result_ok}
 use Rattle.std.specs.Char.{is_ascii_digit}
 use Rattle.std.specs.List.{list_all}
 use Rattle.std.specs.Str.Parse.{AllDigits}
@@ -8,14 +9,12 @@ use Rattle.std.proofs.Math.Seq.{take-append_seam, drop-append_seam}
 use Rattle.std.proofs.lemmas.List.{take-append-drop, length-take-le}
 use Rattle.std.proofs.lemmas.Int.{ints}
 use Rattle.jiff_core.specs.Calendar.{IsCivilDate, days_in_month, days_from_civil}
-use Rattle.td_lex.specs.declared.kinds.TimeFault.TheVariants.{BadTime}
-use Rattle.td_lex.specs.Times.{Stamp, IsStamp, AreDigits, value, filled, fraction_text, clock_text, stamp_text, milliseconds, IsTimestamp, SaysTime}
-use Rattle.td_lex.specs.Stamps.{◌>>=◌, are_digits, number_of, digits_at, past_byte, is_civil_date, day_number_of, date_of, second_of, clock_of, fraction_of, timestamp_of}
-use Rattle.td_lex.proofs.Fronts.{both, together}
-use Rattle.td_lex.proofs.Again.{digits_test, lt_yes}
-use Rattle.td_lex.proofs.Tells.{equal_bytes, less}
-use Rattle.td_lex.proofs.ShortNumbers.{all_are_digits, short_value}
-use Rattle.td_lex.proofs.DayNumbers.{leb_yes, leb_says, passes, some_day}
+use Rattle.td_times.specs.declared.fault.TimeFault.TheVariants.{BadTime}
+use Rattle.td_times.specs.Times.{Stamp, IsStamp, AreDigits, value, filled, fraction_text, clock_text, stamp_text, milliseconds, IsTimestamp, SaysTime}
+use Rattle.td_times.specs.Stamps.{◌>>=◌, are_digits, number_of, digits_at, past_byte, is_civil_date, day_number_of, date_of, second_of, clock_of, fraction_of, timestamp_of}
+use Rattle.td_times.proofs.Tests.{both, together, equal_bytes, less, lt_yes, leb_yes, leb_says, digits_test}
+use Rattle.td_times.proofs.ShortNumbers.{all_are_digits, short_value}
+use Rattle.td_times.proofs.DayNumbers.{passes, some_day}
 
 bind_found : {A B : Type 0} (o : Option A) (f : A → Option B) (y : B) → (o >>= f) ≡ Some y → (x : A) × (o ≡ Some x) × (f x ≡ Some y)
 bind_found None f y e = cc
@@ -268,3 +267,8 @@ says_time text (Some n) h = timestamp_found text n (sym h)
 
 pub one_time : (text : List ℕ) (m n : ℤ) → IsTimestamp text m → IsTimestamp text n → m ≡ n
 one_time text m n h k = let first = reads_time text m h in let second = reads_time text n k in cc
+
+-- the time, where there is one, is the answer's number
+pub read_time : (o : Option ℤ) → result_ok (ok_or o BadTime) ≡ o
+read_time None = refl
+read_time (Some n) = refl

@@ -10,9 +10,8 @@ use Rattle.std.proofs.lemmas.Bool.Decides.{nat_tests}
 use Rattle.std.proofs.lemmas.Fmt.{IsAscii-from_digits}
 use Rattle.std.proofs.lemmas.Str.{IsUtf8-from_ascii}
 use Rattle.std.proofs.lemmas.Str.Parse.{IsNumeralModel, numerals_by_value, parse_digits, digits_value_short}
-use Rattle.td_lex.specs.Stamps.{are_digits, number_of}
-use Rattle.td_lex.proofs.Fronts.{both}
-use Rattle.td_lex.proofs.Numerals.{digit_below}
+use Rattle.td_times.specs.Stamps.{are_digits, number_of}
+use Rattle.td_times.proofs.Tests.{both, digit_below}
 
 own : IsNumeralModel (λ ds. list_all is_ascii_digit ds ≡ true) (digits_value 10)
 own = numerals_by_value (λ ds. list_all is_ascii_digit ds ≡ true) (search rules)

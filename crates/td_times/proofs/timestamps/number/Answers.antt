@@ -2,8 +2,8 @@ use Rattle.std.proofs.Common.{◌≡◌, sym, subst, ◌∙◌, arith, true}
 use Rattle.std.specs.Char.{is_ascii_digit}
 use Rattle.std.specs.List.{list_all}
 use Rattle.std.specs.Str.Parse.{ParsesUnsigned}
-use Rattle.td_lex.proofs.ShortNumbers.{reads_number, small_too, digits_are_utf8}
-use Rattle.td_lex.proofs.times.number.Goals as goal
+use Rattle.td_times.proofs.ShortNumbers.{reads_number, small_too, digits_are_utf8}
+use Rattle.td_times.proofs.timestamps.number.Goals as goal
 
 pub returns-in_default-clause-value : goal.returns-in_default-clause-value
 returns-in_default-clause-value c =

@@ -2,8 +2,8 @@
 use Rattle.std.specs.Prelude.{◌≡◌, ℕ, ◌+◌, ◌-◌, ◌*◌, ◌<◌, ◌≤◌, ℤ, pos, ◌+ℤ◌, ◌*ℤ◌, List, [], ◌∷◌, ◌++◌, length, replicate, Result, Ok, Err}
 use Rattle.std.specs.Str.Parse.{AllDigits, digits_value}
 use Rattle.jiff_core.specs.Calendar.{IsCivilDate, days_from_civil}
-use Rattle.td_lex.specs.declared.kinds.TimeFault.{TimeFault}
-use Rattle.td_lex.specs.declared.kinds.TimeFault.TheVariants.{BadTime, NoMemory}
+use Rattle.td_times.specs.declared.fault.TimeFault.{TimeFault}
+use Rattle.td_times.specs.declared.fault.TimeFault.TheVariants.{BadTime, NoMemory}
 
 -- the digits of the parts; those of the fraction may be missing
 pub record Stamp : Type 0 where

@@ -1,0 +1,5 @@
+mod Tests
+mod ShortNumbers
+mod DayNumbers
+mod StampsRead
+mod Printed
