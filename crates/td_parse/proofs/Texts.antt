@@ -2,13 +2,11 @@
 use Rattle.std.proofs.Common.{◌≡◌, ◌≢◌, ℕ, ◌+◌, ◌-◌, Bool, List, [], ◌∷◌, ◌++◌, length, take, drop, Result, Ok, Err, ◌⊎◌, inl, inr, refl, sym, ap, subst, ◌∙◌, arith, append_assoc, le_refl}
 use Rattle.std.proofs.lemmas.List.{append-nil, length-append, length-map, map-append, take-append-le, take_all}
 use Rattle.std.proofs.Math.Seq.{drop-append_seam}
-use Rattle.td_lex.specs.declared.kinds.Token.{Token}
-use Rattle.td_lex.specs.declared.kinds.Token.TheVariants.{Word, Num, Dur, Str, Sym, Le, Ge, Ne}
 use Rattle.td_lex.specs.declared.kinds.Spanned.{Spanned}
 use Rattle.td_lex.specs.declared.kinds.LexFault.{LexFault}
 use Rattle.td_lex.specs.declared.kinds.LexFault.TheVariants.{NoMemory}
-use Rattle.td_lex.specs.Tokens.{BeginsNot, Ends as EndsToken, Reads, IsTokens, NoToken, WideFirst}
-use Rattle.td_lex.proofs.OneAnswer.{one_answer}
+use Rattle.td_lex.specs.Tokens.{Reads, IsTokens, NoToken, WideFirst}
+use Rattle.td_lex.proofs.LawsOfTokens.{one_answer, cut_before_the_rest}
 use Rattle.td_model.specs.declared.report.Cause.TheVariants.{Syntax}
 use Rattle.td_model.specs.declared.language.Stmt.{Stmt}
 use Rattle.td_model.specs.declared.language.Stmt.TheVariants as stmt
@@ -53,42 +51,6 @@ reads_front at text [] b rest h = (text, ([], refl, refl))
 reads_front at text (t ∷ a) b rest (gap, word, after, blank, parts, stands, place, end, more) =
     let d = reads_front t.end after a b rest more in
     (d.0, (gap, word, after, blank, parts, stands, place, end, d.1))
-
-not_begun : (p : ℕ → Bool) (x y : List ℕ) → BeginsNot p (x ++ y) → BeginsNot p x
-not_begun p [] y h = tt
-not_begun p (b ∷ x) y h = h
-
-ends_front : (t : Token) (word x y : List ℕ) → EndsToken t word (x ++ y) → EndsToken t word x
-ends_front (Word name) word x y h = not_begun _ x y h
-ends_front (Num n) word x y h = not_begun _ x y h
-ends_front (Dur count unit) word x y h = not_begun _ x y h
-ends_front (Str content) word x y h = not_begun _ x y h
-ends_front (Sym b) word x y h = not_begun _ x y h
-ends_front Le word x y h = tt
-ends_front Ge word x y h = tt
-ends_front Ne word x y h = tt
-
--- what is read of a text is the tokens of its front
-reads_cut : (at : ℕ) (text : List ℕ) (ts : List Spanned) (rest : List ℕ) → Reads at text ts rest → (front : List ℕ) × (text ≡ front ++ rest) × Reads at front ts []
-reads_cut at text [] rest (gap, blank, parts) = (gap, parts, (gap, blank, sym (append-nil gap)))
-reads_cut at text (t ∷ ts) rest (gap, word, after, blank, parts, stands, place, end, more) =
-    let d = reads_cut t.end after ts rest more in
-    let f = d.0 in (
-      gap ++ (word ++ f),
-      parts ∙ ap (λ a. gap ++ (word ++ a)) d.1 ∙ sym (append_assoc gap (word ++ f) rest ∙ ap (λ r. gap ++ r) (append_assoc word f rest)),
-      (gap, word, f, blank, refl, (refl, stands.1, ends_front t.token word f rest (subst (λ a. EndsToken t.token word a) d.1 stands.2)), place, end, d.2),
-    )
-
-take_front : (front rest : List ℕ) (at : ℕ) → at + length rest ≡ length (front ++ rest) → take at (front ++ rest) ≡ front
-take_front front rest at h =
-    let n : at ≡ length front = omega (arith, length-append front rest) in
-    rw n (take-append-le (length front) front rest (le_refl (length front)) ∙ take_all (length front) front (le_refl (length front)))
-
-cut_tokens : (text rest : List ℕ) (ts : List Spanned) (at : ℕ) → Reads 0 text ts rest → at + length rest ≡ length text → IsTokens (take at text) ts
-cut_tokens text rest ts at h count =
-    let d = reads_cut 0 text ts rest h in
-    let same : take at text ≡ d.0 = ap (take at) d.1 ∙ take_front d.0 rest at (count ∙ ap length d.1) in
-    subst (λ u. IsTokens u ts) (sym same) d.2
 
 abbrev tokens_in : List Spanned → Result (List Spanned) LexFault → List Spanned
 tokens_in other (Ok ts) = ts
@@ -151,4 +113,4 @@ stopped text rest ts us at answer h count bad is (inr (left, fails, value)) = (
 
 pub of_part : (text rest : List ℕ) (ts us : List Spanned) (at : ℕ) (answer : Stmt) → Reads 0 text ts rest → at + length rest ≡ length text → NoToken rest ⊎ WideFirst rest → IsTokens (take at text) us → OfFront us at answer → Refused text answer
 of_part text rest ts us at answer h count bad tokens of_front =
-    stopped text rest ts us at answer h count bad (one_list (take at text) ts us (cut_tokens text rest ts at h count) tokens) of_front
+    stopped text rest ts us at answer h count bad (one_list (take at text) ts us (cut_before_the_rest text rest ts at h count) tokens) of_front
