@@ -2,10 +2,12 @@
 use Rattle.std.specs.Prelude.{◌≡◌, ℕ, ◌+◌, ◌-◌, ◌^◌, length, min, Bool, if◌then◌else◌, ◌||◌, ◌&&◌, not, ◌==◌, List, Result, is_err, IfOk}
 use Rattle.std.specs.List.{list_any}
 
--- a source: the bytes that are left, how many it gives at most a call, how many calls there were, which fail, how many failed
+-- a source: the bytes that are left, how many it gives at most a call, how many it gave, how many calls there were,
+-- which fail, how many failed
 pub record Feed : Type 0 where
   pub left : List ℕ
   pub most : ℕ
+  pub given : ℕ
   pub calls : ℕ
   pub fails : List ℕ
   pub faults : ℕ

@@ -35,7 +35,13 @@ impl Place for MemPlace {
 
     ghost count = { λ p. 0 };
 
+    ghost taken = { λ p. 0 };
+
     fn faults(&self) -> u64 {
+        0
+    }
+
+    fn taken(&self) -> u64 {
         0
     }
 }

@@ -2,7 +2,7 @@
 ghost use Rattle.std.specs.Prelude.{◌≡◌, ℕ, ◌≤◌, List, Option};
 ghost use Rattle.std.specs.Io.{ReadsAtMost};
 ghost use Rattle.std.specs.Io.KnownBytes.{ReadConsumes, WriteAppends};
-ghost use Rattle.td_outside.specs.Causes.{HasCause, TakesSome, Reads};
+ghost use Rattle.td_outside.specs.Causes.{HasCause, RaisesGiven, TakesSome, Reads};
 
 /// A call on the outside failed, and the count of faults of the object has risen.
 #[derive(Clone, Copy, Debug, PartialEq, Eq)]
@@ -20,6 +20,9 @@ pub trait Source {
     /// The bytes that are left, where it tells them.
     ghost left: { Self → Option (List ℕ) };
 
+    /// How many bytes it gave, up to the number's end. It is always told.
+    ghost given: { Self → ℕ };
+
     /// How often it failed.
     ghost count: { Self → ℕ };
 
@@ -28,6 +31,7 @@ pub trait Source {
     fn read(&mut self, buf: &mut [u8]) -> Result<usize, Failed>
         ensures bound { ReadsAtMost result buf.new }
         ensures bytes { ReadConsumes (left self.old) (left self.new) result buf.new }
+        ensures given { RaisesGiven (given self.old) (given self.new) result }
         ensures cause { HasCause (count self.old) (count self.new) result };
 
     /// How often it failed, up to the number's end.
@@ -88,14 +92,21 @@ pub trait Store: Send {
         ensures { result ≡ count self.now };
 }
 
-/// A place that has a store, of which only the count of faults is used so far.
+/// A place that has a store, of which only the counts are used so far.
 pub trait Place {
     type Dir: Store;
 
     /// How often it failed.
     ghost count: { Self → ℕ };
 
+    /// How often the stores failed that it took back.
+    ghost taken: { Self → ℕ };
+
     /// How often it failed, up to the number's end.
     fn faults(&self) -> u64
         ensures { result ≡ count self.now };
+
+    /// How often the stores failed that it took back, up to the number's end.
+    fn taken(&self) -> u64
+        ensures { result ≡ taken self.now };
 }

@@ -12,39 +12,49 @@ fn one_more(faults: u64) -> u64
     faults.saturating_add(1)
 }
 
-/// A reader of std as a source. A read that was interrupted is made again. Contracts see it as its count of faults.
+/// A reader of std as a source. A read that was interrupted is made again. Contracts see it as its counts.
 #[derive(Drop)]
 pub struct StandardInput<R: Read> {
     inner: R,
+    given: u64,
     faults: u64,
 }
 
 impl<R: Read> Model for StandardInput<R> {
-    ghost use Rattle.std.specs.Prelude.{ℕ};
+    ghost use Rattle.td_realdev.specs.Counts.{Counts};
 
-    ghost Value = { ℕ };
+    ghost Value = { Counts };
 
-    ghost view = { λ s. s.faults };
+    ghost view = { λ s. record { given = s.given; faults = s.faults } };
 }
 
 impl<R: Read> StandardInput<R> {
-    /// The source of a reader, without a fault so far.
+    /// The source of a reader, of which nothing was read so far, without a fault.
     pub fn new(inner: R) -> StandardInput<R>
-        ensures { result ≡ 0 }
+        ensures { result ≡ record { given = 0; faults = 0 } }
     {
-        StandardInput { inner, faults: 0 }
+        StandardInput {
+            inner,
+            given: 0,
+            faults: 0,
+        }
     }
 }
 
 impl<R: Read> Source for StandardInput<R> {
     ghost left = { λ s. None };
 
-    ghost count = { λ s. s };
+    ghost given = { λ s. s.given };
+
+    ghost count = { λ s. s.faults };
 
     fn read(&mut self, buf: &mut [u8]) -> Result<usize, Failed> {
         for _ in 0..u64::MAX {
             match self.inner.read(buf) {
-                Ok(count) => return Ok(count),
+                Ok(count) => {
+                    self.given = self.given.saturating_add(count as u64);
+                    return Ok(count);
+                }
                 Err(error) => {
                     if error.kind() != ErrorKind::Interrupted {
                         break;

@@ -1,6 +1,6 @@
 use Rattle.std.proofs.Common.{◌≡◌}
 use Rattle.td_realdev.proofs.streams.StandardInputSource.read.Given as goal
 
--- no fault is counted before the last try
+-- nothing is counted before the last try
 abbrev pub invariant-loop : goal.invariant-loop
-invariant-loop g l = l.self-inside.faults ≡ l.fn.self
+invariant-loop g l = (l.self-inside.faults ≡ l.fn.self.faults) × (l.self-inside.given ≡ l.fn.self.given)
