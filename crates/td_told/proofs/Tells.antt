@@ -1,5 +1,6 @@
 -- A run of turns is told by its replies and its journal.
-use Rattle.std.proofs.Common.{◌≡◌, ℕ, zero, suc, ◌+◌, ◌-◌, ◌≤◌, List, [], ◌∷◌, ◌++◌, length, take, Option, Some, None, slice_get, refl, sym, ap, ◌∙◌, subst, arith}
+use Rattle.std.proofs.Common.{◌≡◌, ℕ, zero, suc, ◌+◌, ◌-◌, ◌≤◌, ◌<◌, not, false, cond, List, [], ◌∷◌, ◌++◌, map, length, take, Option, Some, None, slice_get, refl, sym, ap, ◌∙◌, subst, arith}
+use Rattle.std.specs.List.{AllByRecursion, Contains}
 use Rattle.std.proofs.lemmas.List.{append_assoc, length-append, take_at}
 use Rattle.td_model.specs.declared.language.Stmt.{Stmt}
 use Rattle.td_model.specs.declared.history.What.{What}
@@ -12,18 +13,21 @@ use Rattle.td_model.specs.declared.report.JournalLine.{JournalLine}
 use Rattle.td_model.specs.State.{State, step, newest, trail, after, at}
 use Rattle.td_model.proofs.Steps.{step_version}
 use Rattle.td_told.specs.Asked.{Asked, count_of, Counted}
-use Rattle.td_told.specs.Times.{Timed}
+use Rattle.td_told.specs.Times.{Timed, without_halts}
 use Rattle.td_told.specs.Verdict.{verdict, answer, header}
-use Rattle.td_told.specs.Told.{IsHistory, Entered, JudgedAt, IsPrefix, Answers, EachAnswered, entry_of, InOrder, NumberIs, front_after, listed, accepted, with_version, version_of, ToldInOrder}
-use Rattle.td_told.specs.Turn.{clock_reads, reply_of, accepted_reply, state_then, line_then, as_list, reply_line_at, line_at, entry_at, Judged}
-use Rattle.td_told.proofs.Plays.{Plays, MayBe}
+use Rattle.td_told.specs.Numbers.{Replied, Number, of_entry, number, number_of, IsFront, front_after, AreFronts}
+use Rattle.td_told.specs.Journal.{RunsOn, IsHistory, entry_of, version_of, IsAccepted, AreAccepted, listed, with_version, accepted}
+use Rattle.td_told.specs.Replies.{Entered, JudgedAt, IsPrefix, Answers, EachAnswers, reply_line}
+use Rattle.td_told.specs.Told.{ToldInOrder}
+use Rattle.td_told.specs.Turn.{clock_reads, reply_of, accepted_reply, state_then, line_then, as_list, line_at, entry_at, Judged}
+use Rattle.td_told.proofs.Plays.{Plays, MayBe, asked_of, replied_with}
 use Rattle.td_told.proofs.Orders.{session_numbers, phase_numbers}
 use Rattle.td_told.proofs.Counts.{Unseen, unseen_more, statement_here, RisesAfter, rises_with, rises_without}
-use Rattle.td_told.proofs.Fits.{Suits, Fits, fits, reads_one}
+use Rattle.td_told.proofs.Fits.{Suits, Fits, fits, reads_one, no_halt, step_alone, answer_numbered}
 
-trail_push : (past : List State) (h : List Entry) (e : Entry) → trail past (h ++ e ∷ []) ≡ step (newest (trail past h)) e ∷ trail past h
+trail_push : (past : List State) (h : List Entry) (e : Entry) → trail past (h ++ e ∷ []) ≡ step (trail past h) e ∷ trail past h
 trail_push past [] e = refl
-trail_push past (x ∷ h) e = trail_push (step (newest past) x ∷ past) h e
+trail_push past (x ∷ h) e = trail_push (step past x ∷ past) h e
 
 slice_get_at : {A : Type 0} (p : List A) (y : A) (ys : List A) (k : ℕ) → k ≡ length p → slice_get (p ++ y ∷ ys) k ≡ Some y
 slice_get_at [] y ys k e = rw e refl
