@@ -1,5 +1,5 @@
 -- Which verdicts a statement may have.
-use Rattle.std.proofs.Common.{◌≡◌, ℕ, ℤ, pos, Bool, true, false, cond, List, [], ◌∷◌, length, map, Option, Some, None, refl, ap}
+use Rattle.std.proofs.Common.{◌≡◌, ℕ, ◌+◌, ℤ, pos, Bool, true, false, cond, List, [], ◌∷◌, length, map, Option, Some, None, refl, ap}
 use Rattle.std.specs.Prelude.{int_lt}
 use Rattle.std.specs.Int.{int_min, int_max}
 use Rattle.td_model.specs.declared.catalog.Column.{Column}
@@ -14,7 +14,8 @@ use Rattle.td_model.specs.declared.report.Cause.{Cause}
 use Rattle.td_model.specs.declared.report.Cause.TheVariants.{OptionNotBuilt}
 use Rattle.td_model.specs.Built.{is_built}
 use Rattle.td_model.specs.Catalog.{Catalog, table_named}
-use Rattle.td_model.specs.State.{State}
+use Rattle.td_model.specs.declared.history.Entry.{Entry}
+use Rattle.td_model.specs.State.{State, effect, step}
 use Rattle.td_verdict.specs.Causes.{first_cause, accepted_or}
 use Rattle.td_verdict.specs.Names.{number_or_none, table_schema}
 use Rattle.td_verdict.specs.Queries.{query_cause, passes_or, query_verdict}
@@ -100,6 +101,19 @@ fits (stmt.Step stream) s cursors m = tt
 pub reads_one : (q : Stmt) (w : What) (rows : ℕ) → Fits q (Accept w rows) → clock_reads q ≡ 1
 reads_one q w rows f = ap (λ b. cond b 1 0) f.1
 
+-- what a statement does looks at no state but the one that it is given
+looks_at_none : (q : Stmt) (w : What) (s : State) (past past' : List State) → Suits q w → effect past w s ≡ effect past' w s
+looks_at_none q (what.Put puts) s past past' suits = refl
+looks_at_none q (what.MakeTable name columns) s past past' suits = refl
+looks_at_none q (what.MakeStable name schema) s past past' suits = refl
+looks_at_none q (what.MakeSub name stable tags) s past past' suits = refl
+looks_at_none q (what.Cut table lo hi) s past past' suits = refl
+looks_at_none q (what.MakeStream def) s past past' suits = refl
+looks_at_none q (what.DropStream n) s past past' suits = refl
+looks_at_none q (what.Edge edge) s past past' suits = refl
+looks_at_none q (what.Step stream upto moment) s past past' suits = absurd suits
+looks_at_none q what.Halt s past past' suits = absurd suits
+
 -- no statement makes a halt
 pub no_halt : (q : Stmt) (w : What) → Suits q w → is_halt w ≡ false
 no_halt q (what.Put puts) suits = refl
@@ -112,6 +126,10 @@ no_halt q (what.DropStream n) suits = refl
 no_halt q (what.Edge edge) suits = refl
 no_halt q (what.Step stream upto moment) suits = absurd suits
 no_halt q what.Halt suits = absurd suits
+
+-- the entry of a statement looks at no state before the newest
+pub step_alone : (q : Stmt) (s : State) (older : List State) (e : Entry) → Suits q e.what → step (s ∷ []) e ≡ step (s ∷ older) e
+step_alone q s older e suits = looks_at_none q e.what (record s { version = s.version + 1; moment = e.moment }) (s ∷ []) (s ∷ older) suits
 
 -- the number of the answer to a query
 pub answer_numbered : (q : Stmt) (p : ℕ) → is_query q ≡ true → answer_number q p ≡ of_state p

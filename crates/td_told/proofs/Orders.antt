@@ -1,5 +1,5 @@
 -- Replies that have the fronts of their lines for numbers: their numbers don't fall, along a session and between phases.
-use Rattle.std.proofs.Common.{◌≡◌, ℕ, ◌≤◌, ◌==◌, max, Bool, true, false, cond, List, [], ◌∷◌, map, filter, arith}
+use Rattle.std.proofs.Common.{ℕ, ◌≤◌, ◌==◌, max, Bool, true, false, cond, List, [], ◌∷◌, map, filter, arith}
 use Rattle.td_told.specs.Numbers.{Replied, Number, of_entry, of_state, unnumbered, number, numbers_of, Follows, number_or, NeverFalling, PhasesFollow, IsFront, front_after, AreFronts}
 
 -- a number that is the front, beside a number that isn't above the front

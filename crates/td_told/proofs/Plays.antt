@@ -1,6 +1,7 @@
 -- A run of turns, one after another.
 use Rattle.std.proofs.Common.{◌≡◌, inl, inr, ℕ, ◌+◌, ◌≤◌, List, [], ◌∷◌, ◌++◌, map, Option, Some, None, refl, sym, ap, ◌∙◌, subst, arith}
 use Rattle.std.proofs.lemmas.List.{append_assoc, append-nil}
+use Rattle.td_limits.specs.declared.limits.TheConstants.{LAST_TIMESTAMP}
 use Rattle.td_model.specs.declared.report.JournalLine.{JournalLine}
 use Rattle.td_model.specs.declared.report.Reply.{Reply}
 use Rattle.td_model.specs.declared.history.Verdict.{Verdict}
@@ -15,7 +16,7 @@ use Rattle.td_told.specs.Turn.{clock_reads, reads, entry_at, reply_of, state_the
 
 -- a moment that a turn may have: it isn't before the state's, lies in the range of time, and has P at the count of readings
 abbrev pub MayBe : (ℕ → ℕ → Type 0) → State → ℕ → ℕ → Type 0
-MayBe P s c m = (s.moment ≤ m) × (m ≤ 253402300799999) × P c m
+MayBe P s c m = (s.moment ≤ m) × (m ≤ LAST_TIMESTAMP) × P c m
 
 abbrev pub asked_of : List Replied → List Asked
 asked_of ps = map (λ (p : Replied). p.asked) ps

@@ -1,5 +1,5 @@
 -- The numbers of replies: how they follow one another.
-use Rattle.std.specs.Prelude.{◌≡◌, ℕ, ◌+◌, ◌≤◌, ◌<◌, Bool, true, false, max, if◌then◌else◌, ◌==◌, List, [], ◌∷◌, map, filter, Option, Some, None}
+use Rattle.std.specs.Prelude.{◌≡◌, ℕ, ◌+◌, ◌≤◌, ◌<◌, max, if◌then◌else◌, ◌==◌, List, [], ◌∷◌, map, filter}
 use Rattle.td_model.specs.declared.language.Stmt.{Stmt}
 use Rattle.td_model.specs.declared.language.Stmt.TheVariants as stmt
 use Rattle.td_model.specs.declared.report.Reply.{Reply}
@@ -55,10 +55,13 @@ abbrev pub NeverFalling : ℕ → List Number → Type 0
 NeverFalling seen [] = Unit {0}
 NeverFalling seen (n ∷ ns) = Follows seen n × NeverFalling (number_or seen n) ns
 
--- The numbers of a phase follow those of all earlier phases: `seen` is the greatest of these, `top` the greatest so far.
+-- The numbers of a phase follow those of all earlier phases: `seen` is the greatest of these, `top` the greatest so
+-- far.
 abbrev pub PhasesFollow : ℕ → ℕ → ℕ → List Replied → Type 0
 PhasesFollow phase seen top [] = Unit {0}
-PhasesFollow phase seen top (p ∷ ps) = Follows (if p.asked.phase == phase then seen else top) (number p) × PhasesFollow p.asked.phase (if p.asked.phase == phase then seen else top) (max top (number_or top (number p))) ps
+PhasesFollow phase seen top (p ∷ ps) =
+    let low = if p.asked.phase == phase then seen else top in
+    Follows low (number p) × PhasesFollow p.asked.phase low (max top (number_or top (number p))) ps
 
 -- a number is the front that the replies before it left, and one more where it is an entry's
 abbrev pub IsFront : ℕ → Number → Type 0

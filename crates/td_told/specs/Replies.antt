@@ -1,5 +1,6 @@
 -- What the replies to statements say.
 use Rattle.std.specs.Prelude.{◌≡◌, ℕ, ◌+◌, ◌-◌, ◌≤◌, ◌<◌, Bool, true, false, not, ◌&&◌, ◌||◌, ◌==◌, List, [], ◌∷◌, map, filter, Some, slice_get, length}
+use Rattle.td_limits.specs.declared.limits.TheConstants.{LAST_TIMESTAMP}
 use Rattle.td_model.specs.declared.language.Query.{Query}
 use Rattle.td_model.specs.declared.language.Stmt.{Stmt}
 use Rattle.td_model.specs.declared.language.Stmt.TheVariants as stmt
@@ -58,9 +59,11 @@ cursors_after p cursors = cursors
 
 -- ---- what a reply says
 
--- The journal has, at this version, a line for the statement of this session and ordinal, which the verdict accepts in the
--- state before it as what it does, with its count of rows.
-pub record Entered (b : State) (h : List Entry) (journal : List JournalLine) (a : Asked) (version : ℕ) (w : What) (rows : ℕ) : Type 0 where
+-- The journal has, at this version, a line for the statement of this session and ordinal, which the verdict accepts in
+-- the state before it as what it does, with its count of rows. No open cursor has a part in it.
+pub record Entered
+    (b : State) (h : List Entry) (journal : List JournalLine) (a : Asked) (version : ℕ) (w : What) (rows : ℕ)
+    : Type 0 where
   pub line : JournalLine
   pub after_base : b.version < version
   pub listed : slice_get journal (version - b.version - 1) ≡ Some line
@@ -73,30 +76,42 @@ pub record Entered (b : State) (h : List Entry) (journal : List JournalLine) (a 
 abbrev pub IsPrefix : State → List JournalLine → ℕ → Type 0
 IsPrefix b journal p = (b.version ≤ p) × (p ≤ b.version + length journal)
 
--- The verdict in the state at a prefix is this one, with cursors of these names open, at some moment that isn't before the state's.
-pub record JudgedAt (b : State) (h : List Entry) (journal : List JournalLine) (cursors : List (List ℕ)) (q : Stmt) (p : ℕ) (v : Verdict) : Type 0 where
+-- The verdict in the state at a prefix is this one, with cursors of these names open, at some moment that isn't before
+-- the state's.
+pub record JudgedAt
+    (b : State) (h : List Entry) (journal : List JournalLine) (cursors : List (List ℕ)) (q : Stmt) (p : ℕ) (v : Verdict)
+    : Type 0 where
   pub is_prefix : IsPrefix b journal p
   pub moment : ℕ
   pub not_before : (at b h p).moment ≤ moment
-  pub most : moment ≤ 253402300799999
+  pub most : moment ≤ LAST_TIMESTAMP
   pub judged : verdict q (at b h p) cursors moment ≡ v
 
--- What a reply to a statement says, where its session has these cursors open. An accepted one is of its form and names its own line
--- of the journal; `rows` and `edge` are the verdict's. A refused one has the cause that the verdict gives in the state at its prefix;
--- an answer has the header and the rows of the query in the state at its prefix. No other reply comes so far but for want of memory.
+-- What a reply to a statement says, where its session has these cursors open. An accepted one is of its form and
+-- names its own line of the journal; `rows` and `edge` are the verdict's. A refused one has the cause that the
+-- verdict gives in the state at its prefix; an answer has the header and the rows of the query in the state at its
+-- prefix. No other reply comes so far but for want of memory.
 abbrev pub Answers : State → List Entry → List JournalLine → List Cursor → Asked → Reply → Type 0
-Answers b h journal cursors a (reply.Accepted v) = (is_other_write a.stmt ≡ true) × (w : What) × (rows : ℕ) × Entered b h journal a v w rows
-Answers b h journal cursors a (reply.AcceptedRows v rows) = (is_insert a.stmt ≡ true) × (w : What) × Entered b h journal a v w rows
-Answers b h journal cursors a (reply.AcceptedEdge v edge) = (is_trim a.stmt ≡ true) × (rows : ℕ) × Entered b h journal a v (what.Edge edge) rows
-Answers b h journal cursors a (reply.Answer p names rows) = (is_query a.stmt ≡ true) × JudgedAt b h journal (names_of cursors) a.stmt p Pass × (names ≡ header a.stmt (at b h p)) × (rows ≡ answer a.stmt (at b h p))
-Answers b h journal cursors a (reply.Refused p cause) = JudgedAt b h journal (names_of cursors) a.stmt p (Refuse cause)
+Answers b h journal cursors a (reply.Accepted v) =
+    (is_other_write a.stmt ≡ true) × (w : What) × (rows : ℕ) × Entered b h journal a v w rows
+Answers b h journal cursors a (reply.AcceptedRows v rows) =
+    (is_insert a.stmt ≡ true) × (w : What) × Entered b h journal a v w rows
+Answers b h journal cursors a (reply.AcceptedEdge v edge) =
+    (is_trim a.stmt ≡ true) × (rows : ℕ) × Entered b h journal a v (what.Edge edge) rows
+Answers b h journal cursors a (reply.Answer p names rows) =
+    (is_query a.stmt ≡ true) × JudgedAt b h journal (names_of cursors) a.stmt p Pass
+    × (names ≡ header a.stmt (at b h p)) × (rows ≡ answer a.stmt (at b h p))
+Answers b h journal cursors a (reply.Refused p cause) =
+    JudgedAt b h journal (names_of cursors) a.stmt p (Refuse cause)
 Answers b h journal cursors a reply.NoMemory = Unit {0}
 Answers b h journal cursors a r = ⊥
 
 -- each statement's reply, with what its session has open after the replies before it
 abbrev pub EachAnswers : State → List Entry → List JournalLine → List Cursor → List Replied → Type 0
 EachAnswers b h journal cursors [] = Unit {0}
-EachAnswers b h journal cursors (p ∷ ps) = Answers b h journal (cursors_of p.asked.session cursors) p.asked p.reply × EachAnswers b h journal (cursors_after p cursors) ps
+EachAnswers b h journal cursors (p ∷ ps) =
+    Answers b h journal (cursors_of p.asked.session cursors) p.asked p.reply
+    × EachAnswers b h journal (cursors_after p cursors) ps
 
 -- a reply with its statement's session and ordinal
 abbrev pub reply_line : Replied → (ℕ × ℕ × Reply)

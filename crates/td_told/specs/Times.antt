@@ -31,11 +31,16 @@ is_halt w = false
 abbrev pub without_halts : List Entry → List Entry
 without_halts h = filter (λ (e : Entry). not (is_halt e.what)) h
 
--- The moment of the k-th entry that isn't a halt is at least each of the first k readings, and the moment of each entry is b's
--- moment or a reading.
+-- a moment is b's or a reading
+abbrev pub IsGiven : List ℕ → ℕ → ℕ → Type 0
+IsGiven readings b moment = (moment ≡ b) ⊎ ((i : ℕ) × (moment ≡ reading readings i))
+
+-- The moment of the k-th entry that isn't a halt is at least each of the first k readings, and the moment of each entry
+-- is b's moment or a reading.
 pub record AreTimed (readings : List ℕ) (b : ℕ) (h : List Entry) : Type 0 where
-  pub late : (k : ℕ) (e : Entry) → slice_get (without_halts h) k ≡ Some e → (i : ℕ) → i ≤ k → reading readings i ≤ e.moment
-  pub among : (k : ℕ) (e : Entry) → slice_get h k ≡ Some e → (e.moment ≡ b) ⊎ ((i : ℕ) × (e.moment ≡ reading readings i))
+  pub late : (k : ℕ) (e : Entry) → slice_get (without_halts h) k ≡ Some e
+      → (i : ℕ) → i ≤ k → reading readings i ≤ e.moment
+  pub among : (k : ℕ) (e : Entry) → slice_get h k ≡ Some e → IsGiven readings b e.moment
 
 -- so it is where the clock told its readings
 abbrev pub Timed : Option (List ℕ) → ℕ → List Entry → Type 0

@@ -12,7 +12,8 @@ use Rattle.td_verdict.specs.Writes.{write_verdict}
 use Rattle.td_verdict.specs.Queries.{query_verdict}
 use Rattle.td_verdict.specs.Answers as answers
 
--- whether a statement's turn reads the clock: that of a write and of a text that is no statement does, that of a query doesn't
+-- whether a statement's turn reads the clock: that of a write and of a text that is no statement does, that of a query
+-- doesn't
 abbrev pub reads_clock : Stmt → Bool
 reads_clock (stmt.Wrong cause) = true
 reads_clock q = is_write q
@@ -24,10 +25,11 @@ read_verdict _ s cursors = Pass
 
 -- what a built form meets in a state, at a moment
 abbrev pub form_verdict : Stmt → State → List (List ℕ) → ℕ → Verdict
-form_verdict q s cursors moment = if is_write q then write_verdict q s.catalog s.edge moment else read_verdict q s cursors
+form_verdict q s cursors moment =
+    if is_write q then write_verdict q s.catalog s.edge moment else read_verdict q s cursors
 
--- What a statement meets in a state, at a moment, where the session has cursors of these names open: a text that is no statement
--- has its own cause; then the form must be built; then comes what the form meets.
+-- What a statement meets in a state, at a moment, where the session has cursors of these names open: a text that is no
+-- statement has its own cause; then the form must be built; then comes what the form meets.
 abbrev pub verdict : Stmt → State → List (List ℕ) → ℕ → Verdict
 verdict (stmt.Wrong cause) s cursors moment = Refuse cause
 verdict q s cursors moment = if is_built q then form_verdict q s cursors moment else Refuse OptionNotBuilt
