@@ -1,5 +1,5 @@
 -- How far a script has been played.
-use Rattle.std.proofs.Common.{◌≡◌, ℕ, ◌+◌, ◌≤◌, ◌==◌, Bool, true, false, cond, List, [], ◌∷◌, ◌++◌, Option, refl, sym, ap, ◌∙◌, subst, arith}
+use Rattle.std.proofs.Common.{◌≡◌, ℕ, ◌+◌, ◌≤◌, ◌==◌, Bool, true, false, cond, List, [], ◌∷◌, ◌++◌, map, Option, refl, sym, ap, ◌∙◌, subst, arith}
 use Rattle.std.specs.List.{count_by}
 use Rattle.std.proofs.lemmas.List.Recursion.{is_count_by}
 use Rattle.td_script.specs.declared.lines.Line.{Line}
@@ -9,9 +9,11 @@ use Rattle.td_model.specs.declared.report.Reply.{Reply}
 use Rattle.td_model.specs.State.{State, empty_state}
 use Rattle.td_told.specs.Asked.{Asked, count_of, Counted}
 use Rattle.td_told.specs.Turn.{reads, reply_line_at, as_list}
-use Rattle.td_told.proofs.Plays.{Plays, MayBe, plays_next, nothing_played, reads_more}
+use Rattle.td_told.specs.Numbers.{Replied}
+use Rattle.td_told.specs.Replies.{reply_line}
+use Rattle.td_told.proofs.Plays.{Plays, MayBe, asked_of, replied_with, plays_next, nothing_played, reads_more, asked_more}
 use Rattle.td_told.proofs.Tells.{told_of_plays}
-use Rattle.td_top.specs.Asks.{Asks, AsksAll, TellsLines}
+use Rattle.td_top.specs.Asks.{Asks, AsksAll, PlaysLines}
 use Rattle.td_top.specs.Moment.{TurnOf}
 use Rattle.td_top.proofs.Clocks.{MomentIs, Taken, turn_taken, left_first, moment_first, times}
 
@@ -57,18 +59,20 @@ counted_of before (k ∷ ls) front (a ∷ script) done all n =
 
 -- What the lines so far, of which there are n, have given.
 pub record Progress (readings now : Option (List ℕ)) (lines : List Line) (rs : List (ℕ × ℕ × Reply)) (js : List JournalLine) (t : State) (floor n : ℕ) : Type 0 where
-  pub script : List Asked
-  pub asks : AsksAll lines script
-  pub played : Plays (MomentIs readings) 0 empty_state script rs js t
-  pub taken : Taken readings (reads script) now floor
+  pub replied : List Replied
+  pub replies : rs ≡ map reply_line replied
+  pub asks : AsksAll lines (asked_of replied)
+  pub played : Plays (MomentIs readings) 0 empty_state replied js t
+  pub taken : Taken readings (reads (asked_of replied)) now floor
   pub early : t.moment ≤ floor
   pub few : t.version ≤ n
 
 pub begun : (readings : Option (List ℕ)) (rs : List (ℕ × ℕ × Reply)) (js : List JournalLine) (t : State) → rs ≡ [] → js ≡ [] → t ≡ empty_state → Progress readings readings [] rs js t 0 0
 begun readings rs js t replies journal state = record {
-  script = [];
+  replied = [];
+  replies = replies;
   asks = tt;
-  played = nothing_played (MomentIs readings) 0 empty_state t rs js replies journal state;
+  played = nothing_played (MomentIs readings) 0 empty_state t js journal state;
   taken = record { left = left_first readings; moment = moment_first readings; most = omega arith };
   early = omega (arith, ap (λ (s : State). s.moment) state);
   few = omega (arith, ap (λ (s : State). s.version) state);
@@ -77,22 +81,27 @@ begun readings rs js t replies journal state = record {
 pub goes_on : (readings now now' : Option (List ℕ)) (lines : List Line) (rs rs' : List (ℕ × ℕ × Reply)) (js js' : List JournalLine) (t t' : State) (floor n m : ℕ) (l : Line) (r : Reply) (line : Option JournalLine) → Progress readings now lines rs js t floor n → TurnOf l t t' now now' floor m r line → rs' ≡ rs ++ reply_line_at l.session l.ordinal r ∷ [] → js' ≡ js ++ as_list line → Progress readings now' (lines ++ l ∷ []) rs' js' t' m (n + 1)
 goes_on readings now now' lines rs rs' js js' t t' floor n m l r line p turn replies journal =
     let a = turn.asked in
-    let taken = turn_taken a.stmt readings (reads p.script) now now' floor m p.taken turn.takes in
+    let taken = turn_taken a.stmt readings (reads (asked_of p.replied)) now now' floor m p.taken turn.takes in
     let may : MayBe (MomentIs readings) t _ m = (omega (arith, p.early, taken.later), taken.taken.most, taken.taken.moment) in
     let own : rs' ≡ rs ++ reply_line_at a.session a.ordinal r ∷ [] = rw (turn.asks.session, turn.asks.ordinal) replies in
-    let left = plays_next (MomentIs readings) p.script m a empty_state t t' rs rs' js js' line r p.played may own journal turn.answers in
+    let left = plays_next (MomentIs readings) p.replied m a empty_state t t' rs rs' js js' line r p.played p.replies may own journal turn.answers in
+    let more : asked_of (p.replied ++ replied_with a r ∷ []) ≡ asked_of p.replied ++ a ∷ [] = asked_more p.replied (replied_with a r) in
     record {
-      script = p.script ++ a ∷ [];
-      asks = asks_more lines p.script l a p.asks turn.asks;
+      replied = p.replied ++ replied_with a r ∷ [];
+      replies = left.replies;
+      asks = subst (AsksAll (lines ++ l ∷ [])) (sym more) (asks_more lines (asked_of p.replied) l a p.asks turn.asks);
       played = left.played;
-      taken = subst (λ c. Taken readings c now' m) (sym (reads_more p.script a)) taken.taken;
+      taken = subst (λ c. Taken readings c now' m) (sym (reads_more (asked_of p.replied) a) ∙ ap reads (sym more)) taken.taken;
       early = left.floor;
       few = omega (arith, left.counted, p.few);
     }
 
-pub told : (readings now : Option (List ℕ)) (lines : List Line) (rs : List (ℕ × ℕ × Reply)) (js : List JournalLine) (t : State) (floor n : ℕ) → Numbered [] lines → Progress readings now lines rs js t floor n → TellsLines readings lines (record { base = 0; replies = rs; streams = []; journal = js })
+pub told : (readings now : Option (List ℕ)) (lines : List Line) (rs : List (ℕ × ℕ × Reply)) (js : List JournalLine) (t : State) (floor n : ℕ) → Numbered [] lines → Progress readings now lines rs js t floor n → PlaysLines empty_state readings now lines (record { base = 0; replies = rs; streams = []; journal = js })
 told readings now lines rs js t floor n numbered p = record {
-  script = p.script;
-  asks = p.asks;
-  told = told_of_plays (MomentIs readings) empty_state readings (times readings) p.script rs js t (counted_of [] lines [] p.script tt p.asks numbered) p.played;
+  tells = record {
+    script = asked_of p.replied;
+    asks = p.asks;
+    told = told_of_plays (MomentIs readings) empty_state readings (times readings) p.replied rs js t p.replies (counted_of [] lines [] (asked_of p.replied) tt p.asks numbered) p.played;
+  };
+  readings = p.taken.left;
 }

@@ -1,5 +1,6 @@
 -- The moment of a statement's turn.
 use Rattle.std.specs.Prelude.{◌≡◌, ℕ, ◌≤◌, max, Bool, true, false, List, Option}
+use Rattle.td_limits.specs.declared.limits.TheConstants.{LAST_TIMESTAMP}
 use Rattle.td_model.specs.declared.language.Stmt.{Stmt}
 use Rattle.td_model.specs.declared.report.Reply.{Reply}
 use Rattle.td_model.specs.declared.report.JournalLine.{JournalLine}
@@ -13,7 +14,7 @@ use Rattle.td_top.specs.Asks.{Asks}
 
 -- a reading of the clock, which doesn't fall below the moments that were given before
 abbrev pub TakesReading : Option (List ℕ) → Option (List ℕ) → ℕ → ℕ → Type 0
-TakesReading before after floor m = (now : ℕ) × Reads before after now × (now ≤ 253402300799999) × (m ≡ max now floor)
+TakesReading before after floor m = (now : ℕ) × Reads before after now × (now ≤ LAST_TIMESTAMP) × (m ≡ max now floor)
 
 -- a reading, or the last moment that was given
 abbrev pub TakesBy : Bool → Option (List ℕ) → Option (List ℕ) → ℕ → ℕ → Type 0
@@ -25,7 +26,9 @@ abbrev pub TakesMoment : Stmt → Option (List ℕ) → Option (List ℕ) → �
 TakesMoment q before after floor m = TakesBy (reads_clock q) before after floor m
 
 -- A line's turn: what it asks, its moment, and what the verdict at that moment gives.
-pub record TurnOf (l : Line) (s t : State) (before after : Option (List ℕ)) (floor m : ℕ) (r : Reply) (line : Option JournalLine) : Type 0 where
+pub record TurnOf
+    (l : Line) (s t : State) (before after : Option (List ℕ)) (floor m : ℕ) (r : Reply) (line : Option JournalLine)
+    : Type 0 where
   pub asked : Asked
   pub asks : Asks l asked
   pub takes : TakesMoment asked.stmt before after floor m

@@ -15,6 +15,10 @@ abbrev pub is_dir : List ℕ → Bool
 is_dir [] = false
 is_dir (b ∷ bs) = not (b == 45)
 
+-- a word as the name of a directory, where it is one
+abbrev pub as_dir : List ℕ → Option (List ℕ)
+as_dir word = if is_dir word then Some word else None
+
 -- the directory that the words name, where they are `play` and one directory
 abbrev pub dir_of : List (List ℕ) → Option (List ℕ)
 dir_of [] = None

@@ -1,7 +1,7 @@
 //! [run] Which words are a command of the program.
 //!
 //! [`read_command`] gives the command of the words, or none: so far `play` and one directory, whose name isn't empty and doesn't
-//! begin with `-`. A word that begins with `-` makes no command. The rest of the words' grammar is told to `clap`, and its
+//! begin with `-` ([`is_dir`]). A word that begins with `-` makes no command. The rest of the words' grammar is told to `clap`, and its
 //! contracts show that the answer is exactly that of the definition, want of memory aside, which comes only at words that are
 //! a command.
 //!
@@ -52,8 +52,8 @@ fn starved<'a>(words: &'a [String]) -> Result<Option<Command<'a>>, NoMem>
     }
 }
 
-// Whether a word can name a directory.
-fn is_dir(dir: &[u8]) -> bool
+/// Whether a word can name a directory: it isn't empty and doesn't begin with `-`.
+pub fn is_dir(dir: &[u8]) -> bool
     ensures { result ≡ is_dir dir.now }
 {
     match dir {

@@ -1,6 +1,6 @@
 use Rattle.std.proofs.Common.{refl, subst}
 use Rattle.td_parse.specs.Statements.{IsAnswer}
-use Rattle.td_top.proofs.top.turn_of.Goals as goal
+use Rattle.td_top.proofs.lines.turn_of.Goals as goal
 
 pub returns : goal.returns
 returns g c =
