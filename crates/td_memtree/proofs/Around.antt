@@ -6,7 +6,7 @@ use Rattle.std.specs.Map.{lookup}
 use Rattle.std.specs.BTreeMap.{insert_entry, is_at}
 use Rattle.std.specs.declared.cmp.Ordering.{Ordering}
 use Rattle.std.specs.declared.cmp.Ordering.TheVariants.{Less, Equal, Greater}
-use Rattle.td_memtree.specs.Keys.{AllAfter, RisesBy}
+use Rattle.td_layer.specs.Keys.{AllAfter, RisesBy}
 
 turned : {K : Type 0} {R : K → K → Ordering} (o : IsTotalOrder R) (x y : K) {r : Ordering} → R y x ≡ r → R x y ≡ ordering_reverse r
 turned o x y h = o.antisymm x y ∙ ap ordering_reverse h

@@ -5,12 +5,13 @@ use Rattle.std.specs.declared.alloc.Global.{Global}
 use Rattle.std.specs.declared.sync.Arc.{Arc}
 use Rattle.td_layer.specs.declared.values.Key.{Key}
 use Rattle.td_memtree.specs.declared.tree.Node.{Node}
-use Rattle.td_memtree.specs.Keys.{InOrder, Balanced}
+use Rattle.td_layer.specs.Keys.{InKeyOrder}
+use Rattle.td_memtree.specs.Keys.{Balanced}
 use Rattle.td_memtree.specs.Pairs.{node_pairs, pairs, NodeIsFit, IsFit}
 
 pub record AtNode {T : Type 0} (d : List (Key × T)) (n : Node T) : Type 0 where
   pub is : d ≡ n.left ++ (n.key, n.item.value) ∷ n.right
-  pub rises : InOrder (n.left ++ (n.key, n.item.value) ∷ n.right)
+  pub rises : InKeyOrder (n.left ++ (n.key, n.item.value) ∷ n.right)
   pub balanced : Balanced (length n.left) (length n.right)
   pub shorter : (length n.left < length d) × (length n.right < length d)
   pub long : length d ≡ length n.left + length n.right + 1

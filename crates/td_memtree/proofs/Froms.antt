@@ -7,7 +7,8 @@ use Rattle.std.specs.declared.cmp.Ordering.{Ordering}
 use Rattle.std.specs.declared.cmp.Ordering.TheVariants.{Less, Equal, Greater}
 use Rattle.td_layer.specs.declared.values.Key.{Key}
 use Rattle.td_memtree.specs.declared.tree.Node.{Node}
-use Rattle.td_memtree.specs.Keys.{AllAfter, RisesBy, key_cmp, pairs_from}
+use Rattle.td_layer.specs.Keys.{AllAfter, RisesBy, key_cmp}
+use Rattle.td_memtree.specs.Keys.{pairs_from}
 use Rattle.td_memtree.proofs.Keyed.{keys_total}
 use Rattle.td_memtree.proofs.Around.{AllBefore, rises_back, before_middle, before_more, after_less, after_same}
 use Rattle.td_memtree.proofs.AtNode.{AtNode}

@@ -3,16 +3,17 @@ use Rattle.std.proofs.Common.{◌≡◌, ◌+◌, ◌^◌, ◌<◌, List, ◌∷
 use Rattle.std.specs.declared.cmp.Ordering.TheVariants.{Less, Equal, Greater}
 use Rattle.td_layer.specs.declared.values.Key.{Key}
 use Rattle.td_memtree.specs.declared.tree.Node.{Node}
-use Rattle.td_memtree.specs.Keys.{InOrder, NearlyBalanced, RisesBy, key_cmp, with_item}
+use Rattle.td_layer.specs.Keys.{InKeyOrder, RisesBy, key_cmp}
+use Rattle.td_memtree.specs.Keys.{NearlyBalanced, with_item}
 use Rattle.td_memtree.proofs.Keyed.{keys_total}
 use Rattle.td_memtree.proofs.Around.{put_front, put_here, put_right, rises_put, length_put}
 use Rattle.td_memtree.proofs.AtNode.{AtNode}
 
 pub record IsPut {T : Type 0} (d : List (Key × T)) (k : Key) (v : T) (l : List (Key × T)) (e : Key × T) (r : List (Key × T)) : Type 0 where
   pub is : l ++ e ∷ r ≡ with_item k v d
-  pub rises : InOrder (l ++ e ∷ r)
+  pub rises : InKeyOrder (l ++ e ∷ r)
 
-put_is : {T : Type 0} {d w : List (Key × T)} (k : Key) (v : T) (l : List (Key × T)) (e : Key × T) (r : List (Key × T)) → d ≡ w → InOrder w → with_item k v w ≡ l ++ e ∷ r → IsPut d k v l e r
+put_is : {T : Type 0} {d w : List (Key × T)} (k : Key) (v : T) (l : List (Key × T)) (e : Key × T) (r : List (Key × T)) → d ≡ w → InKeyOrder w → with_item k v w ≡ l ++ e ∷ r → IsPut d k v l e r
 put_is {T} {d} {w} k v l e r a s h = record { is = sym (ap (with_item k v) a ∙ h); rises = subst (RisesBy key_cmp) h (rises_put key_cmp keys_total w k v s) }
 
 -- the pair of a node, with an item that equals the node's

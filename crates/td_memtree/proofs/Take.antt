@@ -3,16 +3,17 @@ use Rattle.std.proofs.Common.{◌≡◌, ◌+◌, ◌^◌, ◌<◌, List, ◌∷
 use Rattle.std.specs.declared.cmp.Ordering.TheVariants.{Less, Equal, Greater}
 use Rattle.td_layer.specs.declared.values.Key.{Key}
 use Rattle.td_memtree.specs.declared.tree.Node.{Node}
-use Rattle.td_memtree.specs.Keys.{InOrder, NearlyBalanced, RisesBy, key_cmp, without}
+use Rattle.td_layer.specs.Keys.{InKeyOrder, RisesBy, key_cmp}
+use Rattle.td_memtree.specs.Keys.{NearlyBalanced, without}
 use Rattle.td_memtree.proofs.Keyed.{keys_total}
 use Rattle.td_memtree.proofs.Taken.{take_left, take_here, take_right, rises_take, length_take}
 use Rattle.td_memtree.proofs.AtNode.{AtNode}
 
 pub record IsTake {T : Type 0} (d : List (Key × T)) (k : Key) (x : List (Key × T)) : Type 0 where
   pub is : x ≡ without k d
-  pub rises : InOrder x
+  pub rises : InKeyOrder x
 
-take_is : {T : Type 0} {d w : List (Key × T)} (k : Key) (x : List (Key × T)) → d ≡ w → InOrder w → without k w ≡ x → IsTake d k x
+take_is : {T : Type 0} {d w : List (Key × T)} (k : Key) (x : List (Key × T)) → d ≡ w → InKeyOrder w → without k w ≡ x → IsTake d k x
 take_is {T} {d} {w} k x a s h = record { is = sym (ap (without k) a ∙ h); rises = subst (RisesBy key_cmp) h (rises_take key_cmp w k s) }
 
 pub take_left_of : {T : Type 0} {d : List (Key × T)} {n : Node T} → AtNode d n → (k : Key) (l r : List (Key × T)) (i : T) → key_cmp k n.key ≡ Less → l ≡ without k n.left → i ≡ n.item.value → r ≡ n.right → IsTake d k (l ++ (n.key, i) ∷ r)

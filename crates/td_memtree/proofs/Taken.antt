@@ -6,7 +6,7 @@ use Rattle.std.specs.Map.{remove_entry}
 use Rattle.std.specs.BTreeMap.{is_at}
 use Rattle.std.specs.declared.cmp.Ordering.{Ordering}
 use Rattle.std.specs.declared.cmp.Ordering.TheVariants.{Less, Equal, Greater}
-use Rattle.td_memtree.specs.Keys.{AllAfter, RisesBy}
+use Rattle.td_layer.specs.Keys.{AllAfter, RisesBy}
 use Rattle.td_memtree.proofs.Around.{AllBefore, rises_back, before_middle, before_more, before_same, after_less}
 
 module _ {K X : Type 0} (R : K → K → Ordering) where

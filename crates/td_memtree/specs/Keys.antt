@@ -1,26 +1,10 @@
--- The order of keys, and what calls find among pairs in order.
-use Rattle.std.specs.Prelude.{◌≡◌, ℕ, ◌+◌, ◌*◌, ◌≤◌, List, [], ◌∷◌, Option, filter}
-use Rattle.std.specs.declared.cmp.Ordering.{Ordering}
-use Rattle.std.specs.declared.cmp.Ordering.TheVariants.{Less}
-use Rattle.std.specs.Ordering.{nat_cmp, ordering_then, is_le}
+-- What calls find among pairs in the order of their keys, and the balance of nodes.
+use Rattle.std.specs.Prelude.{ℕ, ◌+◌, ◌*◌, ◌≤◌, List, Option, filter}
+use Rattle.std.specs.Ordering.{is_le}
 use Rattle.std.specs.Map.{lookup, remove_entry}
 use Rattle.std.specs.BTreeMap.{insert_entry, is_at}
 use Rattle.td_layer.specs.declared.values.Key.{Key}
-
--- keys are ordered by table, then by timestamp
-abbrev pub key_cmp : Key → Key → Ordering
-key_cmp a b = ordering_then (nat_cmp a.table b.table) (nat_cmp a.ts b.ts)
-
-module _ {K X : Type 0} (cmp : K → K → Ordering) where
-  -- each of these pairs has a key after this one
-  abbrev pub AllAfter : K → List (K × X) → Type 0
-  AllAfter k [] = Unit {0}
-  AllAfter k (e ∷ es) = (cmp k e.0 ≡ Less) × AllAfter k es
-
-  -- the keys rise
-  abbrev pub RisesBy : List (K × X) → Type 0
-  RisesBy [] = Unit {0}
-  RisesBy (e ∷ es) = AllAfter e.0 es × RisesBy es
+use Rattle.td_layer.specs.Keys.{key_cmp}
 
 module _ {T : Type 0} where
   -- the item of a key, if there is one
@@ -39,9 +23,6 @@ module _ {T : Type 0} where
   abbrev pub pairs_from : Key → List (Key × T) → List (Key × T)
   pairs_from key pairs = filter (λ (e : Key × T). is_le (key_cmp key e.0)) pairs
 
-  -- the keys rise
-  abbrev pub InOrder : List (Key × T) → Type 0
-  InOrder pairs = RisesBy key_cmp pairs
 
 -- neither side is more than three times as heavy as the other, where a side weighs one more than its pairs
 abbrev pub Balanced : ℕ → ℕ → Type 0

@@ -4,7 +4,8 @@ use Rattle.std.specs.declared.alloc.Global.{Global}
 use Rattle.std.specs.declared.sync.Arc.{Arc}
 use Rattle.td_memtree.specs.declared.tree.Node.{Node}
 use Rattle.td_layer.specs.declared.values.Key.{Key}
-use Rattle.td_memtree.specs.Keys.{InOrder, Balanced}
+use Rattle.td_layer.specs.Keys.{InKeyOrder}
+use Rattle.td_memtree.specs.Keys.{Balanced}
 
 -- the pairs of a node, in key order
 abbrev pub node_pairs : {T : Type 0} → Node T → List (Key × T)
@@ -17,7 +18,7 @@ pairs (Some a) = node_pairs a.value
 
 -- a node's keys rise, its count is right and its sides are balanced
 abbrev pub NodeIsFit : {T : Type 0} → Node T → Type 0
-NodeIsFit n = InOrder (node_pairs n) × (n.count ≡ length (node_pairs n)) × Balanced (length n.left) (length n.right)
+NodeIsFit n = InKeyOrder (node_pairs n) × (n.count ≡ length (node_pairs n)) × Balanced (length n.left) (length n.right)
 
 abbrev pub IsFit : {T : Type 0} → Option (Arc (Node T) Global) → Type 0
 IsFit None = Unit {0}

@@ -2,7 +2,8 @@
 ghost use Rattle.std.specs.Prelude.{◌≡◌, ◌+◌, ◌*◌, ◌^◌, ◌<◌, ◌≤◌, [], ◌∷◌, ◌++◌, length, IfOk, MatchOption};
 ghost use Rattle.std.specs.Option.{option_copied};
 ghost use Rattle.std.specs.Arc.{arc_value};
-ghost use Rattle.td_memtree.specs.Keys.{item_at, with_item, without, InOrder, Balanced, NearlyBalanced};
+ghost use Rattle.td_layer.specs.Keys.{InKeyOrder};
+ghost use Rattle.td_memtree.specs.Keys.{item_at, with_item, without, Balanced, NearlyBalanced};
 
 use std::alloc::Global;
 use std::cmp::Ordering;
@@ -113,7 +114,7 @@ impl<T: Drop> Tree<T> {
         item: Arc<T, Global>,
         right: Tree<T>,
     ) -> Result<Tree<T>, NoMem>
-        requires sorted { InOrder (left ++ (key, arc_value item) ∷ right) }
+        requires sorted { InKeyOrder (left ++ (key, arc_value item) ∷ right) }
         requires balanced { Balanced (length left) (length right) }
         requires fits { length left + length right + 1 < 2 ^ 32 }
         ensures { IfOk result (λ t. t ≡ left ++ (key, arc_value item) ∷ right) }
@@ -140,7 +141,7 @@ impl<T: Drop> Tree<T> {
         item: Arc<T, Global>,
         right: Tree<T>,
     ) -> Result<Tree<T>, NoMem>
-        requires sorted { InOrder (left ++ (key, arc_value item) ∷ right) }
+        requires sorted { InKeyOrder (left ++ (key, arc_value item) ∷ right) }
         requires nearly { NearlyBalanced (length left) (length right) }
         requires fits { length left + length right + 1 < 2 ^ 32 }
         ensures { IfOk result (λ t. t ≡ left ++ (key, arc_value item) ∷ right) }
@@ -167,7 +168,7 @@ impl<T: Drop> Tree<T> {
         item: Arc<T, Global>,
         right: &Tree<T>,
     ) -> Result<Tree<T>, NoMem>
-        requires sorted { InOrder (left ++ (key, arc_value item) ∷ right.now) }
+        requires sorted { InKeyOrder (left ++ (key, arc_value item) ∷ right.now) }
         requires heavy { 3 * (length left + 1) ≤ length right.now }
         requires nearly { length right.now ≤ 3 * (length left + 1) + 2 }
         requires fits { length left + length right.now + 1 < 2 ^ 32 }
@@ -204,7 +205,7 @@ impl<T: Drop> Tree<T> {
         item: Arc<T, Global>,
         right: Tree<T>,
     ) -> Result<Tree<T>, NoMem>
-        requires sorted { InOrder (left.now ++ (key, arc_value item) ∷ right) }
+        requires sorted { InKeyOrder (left.now ++ (key, arc_value item) ∷ right) }
         requires heavy { 3 * (length right + 1) ≤ length left.now }
         requires nearly { length left.now ≤ 3 * (length right + 1) + 2 }
         requires fits { length left.now + length right + 1 < 2 ^ 32 }
@@ -354,7 +355,7 @@ impl<T: Drop> Tree<T> {
     // The tree of the last `n` pairs, which are taken off.
     fn build(alloc: Global, pairs: &mut Seq<(Key, T)>, n: usize) -> Result<Tree<T>, NoMem>
         requires within { n ≤ length pairs.old }
-        requires sorted { InOrder pairs.old }
+        requires sorted { InKeyOrder pairs.old }
         requires few { n < 2 ^ 32 }
         ensures pairs { IfOk result (λ t. pairs.old ≡ pairs.new ++ t) }
         ensures count { IfOk result (λ t. length t ≡ n) }
@@ -375,7 +376,7 @@ impl<T: Drop> Tree<T> {
 
     /// The tree of a list of pairs that is in the order of its keys, in time linear in its length.
     pub fn from_sorted(alloc: Global, pairs: Seq<(Key, T)>) -> Result<Tree<T>, NoMem>
-        requires sorted { InOrder pairs }
+        requires sorted { InKeyOrder pairs }
         requires few { length pairs < 2 ^ 32 }
         ensures { IfOk result (λ t. t ≡ pairs) }
     {
@@ -387,7 +388,7 @@ impl<T: Drop> Tree<T> {
 
     // Two balanced sides in one tree.
     fn joined(alloc: Global, left: Tree<T>, right: &Tree<T>) -> Result<Tree<T>, NoMem>
-        requires sorted { InOrder (left ++ right.now) }
+        requires sorted { InKeyOrder (left ++ right.now) }
         requires balanced { Balanced (length left) (length right.now) }
         requires fits { length left + length right.now < 2 ^ 32 }
         ensures { IfOk result (λ t. t ≡ left ++ right.now) }

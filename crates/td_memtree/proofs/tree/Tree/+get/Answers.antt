@@ -1,5 +1,6 @@
 use Rattle.std.proofs.Common.{Some, sym, ap, ◌∙◌}
-use Rattle.td_memtree.specs.Keys.{item_at, key_cmp}
+use Rattle.td_layer.specs.Keys.{key_cmp}
+use Rattle.td_memtree.specs.Keys.{item_at}
 use Rattle.td_memtree.proofs.Keyed.{keys_total}
 use Rattle.td_memtree.proofs.Around.{find_left, find_here, find_right}
 use Rattle.td_memtree.proofs.AtNode.{at_node}
