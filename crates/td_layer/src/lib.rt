@@ -1,7 +1,7 @@
-//! [base] Values, keys, rows and cells, the parts of layers and the traits of their scans, and lists that contracts see as lists.
+//! [base] Lists, values, keys, rows and cells, and the parts of layers with the traits of their scans.
 //!
-//! It promises that a list does what its name says: what `push`, `pop`,
-//! `insert` and `set` leave is said exactly, a copy equals what it copies, and a call that finds no memory leaves the
+//! Contracts see a list as the list of its items. It is promised that a list does what its name says: what `push`, `pop`,
+//! `insert` and `set` leave is said exactly, a copy equals what it copies, and a call that runs out of memory leaves the
 //! list as it was. A [`Roomy`] list shows its spare room beside its items, so that its owner can promise that a later
 //! `push` finds memory.
 //!
