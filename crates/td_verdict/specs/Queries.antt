@@ -1,5 +1,4 @@
--- What a row query meets in a catalog: a SELECT without aggregate, window and PARTITION BY. Other queries aren't built yet, nor
--- is the reading of a stream's target.
+-- What a row query meets in a catalog: a SELECT without aggregate, window and PARTITION BY.
 use Rattle.std.specs.Prelude.{ℕ, ℤ, pos, int_le, Bool, true, false, not, ◌&&◌, ◌||◌, ◌==◌, if◌then◌else◌, List, [], ◌∷◌, length, Option, Some, None, is_none}
 use Rattle.std.specs.Ordering.{int_eq}
 use Rattle.std.specs.Str.{bytes_eq}
@@ -21,23 +20,14 @@ use Rattle.td_model.specs.declared.history.Verdict.{Verdict}
 use Rattle.td_model.specs.declared.history.Verdict.TheVariants.{Pass, Refuse}
 use Rattle.td_model.specs.declared.report.Cause.{Cause}
 use Rattle.td_model.specs.declared.report.Cause.TheVariants as cause
+use Rattle.td_limits.specs.declared.limits.TheConstants.{LAST_COUNT}
 use Rattle.td_model.specs.Catalog.{Catalog, stable_named, table_named}
 use Rattle.td_verdict.specs.Causes.{when, first_cause}
 use Rattle.td_verdict.specs.Names.{is_taken, is_target, table_schema, stable_schema, column_named, is_first}
 use Rattle.td_verdict.specs.Values.{suits}
 use Rattle.td_verdict.specs.Fields.{fields, part_column}
-use Rattle.td_verdict.specs.Streams.{is_whole, is_plain}
+use Rattle.td_verdict.specs.Streams.{is_plain}
 use Rattle.td_verdict.specs.Writes.{first_given}
-
--- ---- which queries are built
-
-abbrev pub is_aggregate : ItemKind → Bool
-is_aggregate item.CountAll = true
-is_aggregate (item.Fun func name) = true
-is_aggregate _ = false
-
-abbrev pub is_row_query : Query → Bool
-is_row_query q = not (list_any (λ (i : Item). is_aggregate i.what) q.items) && is_whole q.window && (length q.parts == 0)
 
 -- `SELECT *` with an optional LIMIT, whose OFFSET is 0 or not given: the one form that reads a target
 abbrev pub reads_all : Query → Bool
@@ -54,9 +44,6 @@ abbrev pub source_schema : List ℕ → Catalog → Schema
 source_schema source c = schema_or (table_named source c) (stable_named source c) c
 
 -- ---- causes
-
-abbrev pub target_cause : Query → Cause
-target_cause q = if reads_all q then cause.OptionNotBuilt else cause.TargetOfStream
 
 -- a name that is no column or tag
 abbrev pub is_unknown : Schema → List ℕ → Bool
@@ -105,9 +92,9 @@ is_order_other columns (order.Desc name) = not (is_first columns name)
 abbrev pub is_bad_selection : Schema → Query → Bool
 is_bad_selection s q = list_any (λ (i : Item). needs_window i.what) q.items || is_order_other s.columns q.order
 
--- a count of rows of LIMIT or OFFSET is 0 to 4294967295
+-- a count of rows of LIMIT or OFFSET is 0 to the greatest that there is
 abbrev pub is_count : ℤ → Bool
-is_count n = int_le (pos 0) n && int_le n (pos 4294967295)
+is_count n = int_le (pos 0) n && int_le n (pos LAST_COUNT)
 
 abbrev pub is_bad_limit : Query → Bool
 is_bad_limit q = not (is_count q.skip) || option_map_or (λ n. not (is_count n)) q.limit false
@@ -123,9 +110,8 @@ body_cause s q = first_cause (
 
 abbrev pub query_cause : Query → Catalog → Option Cause
 query_cause q c = first_cause (
-    when (not (is_row_query q)) cause.OptionNotBuilt
-    ∷ when (not (is_taken q.source c)) cause.UnknownTable
-    ∷ when (is_target q.source c) (target_cause q)
+    when (not (is_taken q.source c)) cause.UnknownTable
+    ∷ when (is_target q.source c && not (reads_all q)) cause.TargetOfStream
     ∷ body_cause (source_schema q.source c) q
     ∷ [])
 
