@@ -32,17 +32,17 @@ lt_none i n true e k = absurd (cc)
 lt_none i n false e k = sym e
 
 -- where no element is found, none passes
-at_end : {X : Type 0} (p : X → Bool) (xs : List X) → nat_lt (position_or_len p xs) (length xs) ≡ false → list_any p xs ≡ false
+pub at_end : {X : Type 0} (p : X → Bool) (xs : List X) → nat_lt (position_or_len p xs) (length xs) ≡ false → list_any p xs ≡ false
 at_end p [] h = refl
-at_end {X} p (x ∷ xs) h = by (p x) h
+at_end {X} p (x ∷ xs) h = by (p x) (at_end p xs) h
   where
     first_in : (n : ℕ) → nat_lt 0 (suc n) ≡ false → ⊥
     first_in n k = grind (arith, nat_tests)
     later_in : (i n : ℕ) → nat_lt (1 + i) (suc n) ≡ false → nat_lt i n ≡ false
     later_in i n k = grind (arith, nat_tests)
-    by : (b : Bool) → nat_lt (cond (not b) (1 + position_or_len p xs) 0) (suc (length xs)) ≡ false → (b || list_any p xs) ≡ false
-    by true k = absurd (first_in (length xs) k)
-    by false k = at_end p xs (later_in (position_or_len p xs) (length xs) k)
+    by : (b : Bool) → (nat_lt (position_or_len p xs) (length xs) ≡ false → list_any p xs ≡ false) → nat_lt (cond (not b) (1 + position_or_len p xs) 0) (suc (length xs)) ≡ false → (b || list_any p xs) ≡ false
+    by true rest k = absurd (first_in (length xs) k)
+    by false rest k = rest (later_in (position_or_len p xs) (length xs) k)
 
 nowhere : {X : Type 0} (p : X → Bool) (xs : List X) → option_map (λ i. i + 1) (position p xs) ≡ None → list_any p xs ≡ false
 nowhere p xs h = at_end p xs (lt_none (position_or_len p xs) (length xs) _ refl h)
@@ -55,11 +55,11 @@ any_map q f (x ∷ xs) h =
 
 no_number : (p : StreamEntry → Bool) (es : List StreamEntry) → first_number p es ≡ None → list_any p es ≡ false
 no_number p [] h = refl
-no_number p (e ∷ es) h = by (p e) h
+no_number p (e ∷ es) h = by (p e) (no_number p es) h
   where
-    by : (b : Bool) → cond b (Some e.number) (first_number p es) ≡ None → (b || list_any p es) ≡ false
-    by true k = absurd (cc)
-    by false k = no_number p es k
+    by : (b : Bool) → (first_number p es ≡ None → list_any p es ≡ false) → cond b (Some e.number) (first_number p es) ≡ None → (b || list_any p es) ≡ false
+    by true rest k = absurd (cc)
+    by false rest k = rest k
 
 abbrev table_name : TableDef → List ℕ
 table_name t = t.name

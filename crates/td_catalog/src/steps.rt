@@ -1,8 +1,8 @@
 //! The two steps of a change: what takes memory, and what then takes none.
-ghost use Rattle.std.specs.Prelude.{◌≡◌, ◌<◌, ◌≤◌, ◌+◌, ◌^◌, length, [], ◌∷◌, ◌++◌, ℕ, None, OnOk, IfOk, filter, not, ◌==◌};
+ghost use Rattle.std.specs.Prelude.{◌≡◌, ◌<◌, ◌≤◌, ◌+◌, ◌^◌, length, [], ◌∷◌, ◌++◌, ℕ, List, None, OnOk, IfOk, filter, not, ◌==◌};
 ghost use Rattle.td_model.specs.declared.history.What.{What};
 ghost use Rattle.td_model.specs.declared.history.Entry.{Entry};
-ghost use Rattle.td_model.specs.State.{State, step};
+ghost use Rattle.td_model.specs.State.{State, newest, step};
 ghost use Rattle.td_model.specs.declared.history.What.TheVariants as what;
 ghost use Rattle.td_model.specs.Catalog.{stable_named, table_named, stream_named, target_named, with_what};
 ghost use Rattle.td_verdict.specs.Valid.{IsValid};
@@ -34,7 +34,9 @@ impl Catalog {
         requires { IsReadyFor change self.old }
         ensures changed { self.new.catalog ≡ changed change self.old.catalog }
         ensures entry { (what : What) → change ≡ change_of what → self.new.catalog ≡ with_what what self.old.catalog }
-        ensures after { (s : State) (e : Entry) → s.catalog ≡ self.old.catalog → change ≡ change_of e.what → self.new.catalog ≡ (step s e).catalog }
+        ensures after { (past : List State) (e : Entry)
+            → (newest past).catalog ≡ self.old.catalog → change ≡ change_of e.what
+            → self.new.catalog ≡ (step past e).catalog }
     {
         let _ = &self.alloc;
         let Change { part } = change;

@@ -6,7 +6,7 @@ ghost use Rattle.std.specs.Cmp.Lexicographic.{slice_cmp};
 ghost use Rattle.td_model.specs.Tags.{number_of, text_of, is_null, order_of, passes, compares, cell_matches, tag_matches};
 
 use std::cmp::Ordering;
-use td_layer::Cell;
+use td_layer::{Cell, Name};
 use td_model::Op;
 
 /// The number that a cell counts as: a truth value is 1 or 0. NULL, a quotient and a text are none.
@@ -61,6 +61,20 @@ fn texts_pass(op: Op, a: &Cell, b: &Cell) -> bool
     match (text_of(a), text_of(b)) {
         (Some(s), Some(t)) => passes(op, s.cmp(&t)),
         _ => false,
+    }
+}
+
+/// Whether a text passes a comparison with a cell, as [`cell_matches`] says of the cell that holds it.
+pub fn text_matches(op: Op, text: &Name, b: &Cell) -> bool
+    ensures { result ≡ cell_matches op (Cell.Str text.now) b.now }
+{
+    match op {
+        Op::IsNull => false,
+        Op::NotNull => true,
+        Op::Lt | Op::Le | Op::Gt | Op::Ge | Op::Eq | Op::Ne => match text_of(b) {
+            Some(other) => passes(op, text.as_slice().cmp(&other)),
+            None => false,
+        },
     }
 }
 

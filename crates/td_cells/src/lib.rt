@@ -10,4 +10,4 @@
 
 mod cells;
 
-pub use cells::{cell_matches, number_of, tag_matches, text_of};
+pub use cells::{cell_matches, number_of, tag_matches, text_matches, text_of};

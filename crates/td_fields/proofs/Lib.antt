@@ -1,2 +1,2 @@
 pub mod Places
-pub mod Times
+pub mod Read

@@ -4,8 +4,11 @@ use Rattle.std.specs.Option.{unwrap_or}
 use Rattle.td_cols.specs.declared.kinds.Kind.{Kind}
 use Rattle.td_cols.specs.Kinds.{is_in_range}
 use Rattle.td_layer.specs.declared.values.Value.{Value}
+use Rattle.td_layer.specs.declared.values.Cell.{Cell}
+use Rattle.td_layer.specs.declared.values.Cell.TheVariants as cell
 use Rattle.td_model.specs.declared.language.Lit.{Lit}
-use Rattle.td_verdict.specs.Values.{width_of, number_at, text_at, is_null, value_or_null}
+use Rattle.td_model.specs.declared.language.Lit.TheVariants as lit
+use Rattle.td_verdict.specs.Values.{width_of, number_at, text_at, is_null, value_or_null, number_cell}
 use Rattle.td_fields.specs.declared.literals.Said.{Said}
 use Rattle.td_fields.specs.declared.literals.Said.TheVariants as said
 
@@ -43,3 +46,15 @@ number_said said.Nothing = None
 
 abbrev pub value_said : Said → Value
 value_said s = value_or_null (number_said s)
+
+-- the text of a literal, or NULL
+abbrev pub text_cell : Lit → Cell
+text_cell (lit.Str text) = cell.Str text
+text_cell _ = cell.Null
+
+-- the cell of a tag, from what its literal says
+abbrev pub cell_from : Kind → Lit → Said → Cell
+cell_from k l said.Null = cell.Null
+cell_from k l (said.Number n) = number_cell k n
+cell_from k l (said.Text bytes) = text_cell l
+cell_from k l said.Nothing = cell.Null

@@ -11,12 +11,13 @@ ghost use Rattle.td_verdict.specs.Answers.{places_from, star_fields, item_place,
 use crate::literals::{number_at, text_at};
 use crate::names::{column_named, place_of};
 use std::alloc::Global;
+use td_limits::NAME_BYTES;
 use td_layer::{Cell, Copied, Name, NoMem, Seq};
 use td_model::{Column, Cond, Item, ItemKind, Kind, Lit, PartBy, Query, Schema};
 use td_verdict::Comparison;
 
-/// TBNAME is compared as a text of at most 192 bytes.
-pub const TBNAME: Kind = Kind::Text(192);
+/// TBNAME is compared as a text of at most the bytes of a name.
+pub const TBNAME: Kind = Kind::Text(NAME_BYTES as u16);
 
 /// The column or tag of a name.
 #[tactic(auto, using(crate::proofs::Places::named_column, crate::proofs::Places::named_tag))]
@@ -105,9 +106,7 @@ pub fn comparisons(alloc: Global, schema: &Schema, conds: &[Cond]) -> Result<Seq
     for cond in conds {
         let comparison = comparison_of(schema, cond)?;
         if let Some(comparison) = comparison {
-            if all.push(comparison).is_err() {
-                return Err(NoMem);
-            }
+            all.add(comparison)?;
         }
     }
     Ok(all)
@@ -120,9 +119,7 @@ fn first_places(alloc: Global, count: usize) -> Result<Seq<usize>, NoMem>
 {
     let mut places = Seq::new(alloc);
     for i in 0..count {
-        if places.push(i + 1).is_err() {
-            return Err(NoMem);
-        }
+        places.add(i + 1)?;
     }
     Ok(places)
 }
@@ -145,9 +142,7 @@ fn item_places(alloc: Global, schema: &Schema, items: &[Item]) -> Result<Seq<usi
     let mut places = Seq::new(alloc);
     for item in items {
         if let Some(place) = item_place(schema, &item.what) {
-            if places.push(place).is_err() {
-                return Err(NoMem);
-            }
+            places.add(place)?;
         }
     }
     Ok(places)

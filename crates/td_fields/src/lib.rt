@@ -6,7 +6,7 @@
 //! shows, and [`header`] what they are called. A row's cells are its table's name, at place 0, then its columns, from place 1 on,
 //! then its table's tags. Promised is just what the definitions say (`td_verdict`).
 //!
-//! It stands on `td_verdict` for the definitions, on `td_cells` for cells, on `td_lex` for the texts of timestamps, and on
+//! It stands on `td_verdict` for the definitions, on `td_times` for the texts of timestamps, and on
 //! `td_model` and `td_layer` for the types.
 #![tactic(auto)]
 
@@ -17,7 +17,7 @@ mod times;
 mod titles;
 
 pub use fields::{TBNAME, comparisons, field_named, shown_places};
-pub use literals::{Said, number_cell, said_at, tag_of};
+pub use literals::{Said, cell_said, number_cell, said_at};
 pub use names::{add_names, column_named, has_width, is_first, is_time, lacks_time, place_of, same};
-pub use times::{last_time, time_from};
+pub use times::time_from;
 pub use titles::header;

@@ -1,9 +1,9 @@
 //! What a literal says at a column or a tag.
 ghost use Rattle.std.specs.Prelude.{◌≡◌, IfOk};
 ghost use Rattle.std.specs.Option.{option_copied};
-ghost use Rattle.td_lex.specs.Stamps.{timestamp_of};
-ghost use Rattle.td_verdict.specs.Values.{is_truth, number_at, is_null, value_of, number_cell, tag_of, text_at};
-ghost use Rattle.td_fields.specs.Said.{said_at, number_said, is_suited, is_null_said, is_fit, value_said};
+ghost use Rattle.td_times.specs.Stamps.{timestamp_of};
+ghost use Rattle.td_verdict.specs.Values.{is_truth, number_at, is_null, value_of, number_cell, text_at};
+ghost use Rattle.td_fields.specs.Said.{said_at, number_said, is_suited, is_null_said, is_fit, value_said, text_cell, cell_from};
 
 use crate::names::{is_time, width_of};
 use td_layer::{Cell, Copied, Name, NoMem, Value};
@@ -81,19 +81,12 @@ fn is_null(lit: &Lit) -> bool
     matches!(lit, Lit::Null)
 }
 
-fn wide(n: i64) -> i128
-    ensures { result ≡ n }
-{
-    i128::from(n)
-}
-
 // The milliseconds that a text says, if it is a timestamp's.
-#[tactic(auto, using(crate::proofs::Times::time_told, crate::proofs::Times::no_time_told))]
 fn time_of(text: &[u8]) -> Option<i128>
     ensures { result ≡ timestamp_of text.now }
 {
-    match td_lex::timestamp(text) {
-        Ok(milliseconds) => Some(wide(milliseconds)),
+    match td_times::timestamp(text) {
+        Ok(milliseconds) => Some(i128::from(milliseconds)),
         Err(_) => None,
     }
 }
@@ -120,6 +113,19 @@ pub(crate) fn text_at(kind: Kind, lit: &Lit) -> Option<&Name>
     match lit {
         Lit::Str(text) if width_of(kind).is_some() => Some(text),
         _ => None,
+    }
+}
+
+// The text of a literal, or NULL where it is none.
+fn text_cell(lit: &Lit) -> Result<Cell, NoMem>
+    ensures { IfOk result (λ cell. cell ≡ text_cell lit.now) }
+{
+    match lit {
+        Lit::Str(text) => {
+            let text = text.copy()?;
+            Ok(Cell::Str(text))
+        }
+        _ => Ok(Cell::Null),
     }
 }
 
@@ -151,18 +157,16 @@ pub fn number_cell(kind: Kind, n: i128) -> Cell
     }
 }
 
-/// The cell of a tag of a kind that a literal gives.
-pub fn tag_of(kind: Kind, moment: u64, lit: &Lit) -> Result<Cell, NoMem>
-    ensures { IfOk result (λ cell. cell ≡ tag_of kind moment lit.now) }
+/// The cell of a tag of a kind, from what its literal says.
+pub fn cell_said(kind: Kind, said: Said, lit: &Lit) -> Result<Cell, NoMem>
+    ensures { IfOk result (λ cell. cell ≡ cell_from kind lit.now said) }
 {
-    if let Some(n) = number_at(kind, moment, lit) {
-        return Ok(number_cell(kind, n));
-    }
-    match text_at(kind, lit) {
-        Some(text) => {
-            let text = text.copy()?;
-            Ok(Cell::Str(text))
+    match said {
+        Said::Number(n) => Ok(number_cell(kind, n)),
+        Said::Text(_) => {
+            let text = text_cell(lit)?;
+            Ok(text)
         }
-        None => Ok(Cell::Null),
+        Said::Null | Said::Nothing => Ok(Cell::Null),
     }
 }

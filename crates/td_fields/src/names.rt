@@ -6,6 +6,7 @@ ghost use Rattle.td_verdict.specs.Names.{is_first, is_named, is_time, lacks_time
 ghost use Rattle.td_verdict.specs.Values.{width_of, has_width};
 ghost use Rattle.td_verdict.specs.Writes.{place_of};
 
+use td_limits::TAG_BYTES;
 use td_layer::{Copied, Name, NoMem, Seq};
 use td_model::{Column, Kind};
 
@@ -67,12 +68,12 @@ pub(crate) fn width_of(kind: Kind) -> Option<u16>
     }
 }
 
-/// Whether a text's bytes are 1 to 4096, where a kind is of texts.
+/// Whether a text has 1 byte or more and not too many, where a kind is of texts.
 pub fn has_width(kind: Kind) -> bool
     ensures { result ≡ has_width kind }
 {
     match width_of(kind) {
-        Some(width) => 1 <= width && width <= 4096,
+        Some(width) => 1 <= width && u32::from(width) <= TAG_BYTES,
         None => true,
     }
 }
@@ -83,9 +84,7 @@ pub fn add_names(names: &mut Seq<Name>, columns: &[Column]) -> Result<(), NoMem>
 {
     for column in columns {
         let name = column.name.copy()?;
-        if names.push(name).is_err() {
-            return Err(NoMem);
-        }
+        names.add(name)?;
     }
     Ok(())
 }

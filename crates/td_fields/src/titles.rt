@@ -60,9 +60,7 @@ fn item_titles(alloc: Global, items: &[Item]) -> Result<Seq<Name>, NoMem>
     let mut titles = Seq::new(alloc);
     for item in items {
         let title = item_title(alloc, item)?;
-        if titles.push(title).is_err() {
-            return Err(NoMem);
-        }
+        titles.add(title)?;
     }
     Ok(titles)
 }

@@ -1,6 +1,6 @@
 -- What a row query reads: the tables of its source that its conditions on tags leave, and the timestamps that its conditions
 -- on the first column leave.
-use Rattle.std.specs.Prelude.{ℕ, ◌+◌, ◌-◌, min, max, ℤ, pos, negsuc, Bool, true, false, ◌==◌, nat_lt, if◌then◌else◌, List, [], ◌∷◌, map, filter, length, Option, Some, None, is_some}
+use Rattle.std.specs.Prelude.{ℕ, ◌+◌, ◌-◌, ◌&&◌, min, max, ℤ, pos, negsuc, Bool, true, false, ◌==◌, nat_lt, if◌then◌else◌, List, [], ◌∷◌, map, filter, length, Option, Some, None, is_some}
 use Rattle.std.specs.Option.{option_map_or}
 use Rattle.std.specs.Str.{bytes_eq}
 use Rattle.td_layer.specs.declared.values.Cell.{Cell}
@@ -12,11 +12,13 @@ use Rattle.td_model.specs.declared.language.Op.TheVariants as op
 use Rattle.td_model.specs.declared.language.Query.{Query}
 use Rattle.td_model.specs.declared.plan.Plan.{Plan}
 use Rattle.td_limits.specs.declared.limits.TheConstants.{LAST_TIMESTAMP}
-use Rattle.td_model.specs.Catalog.{Catalog, stable_named, table_named, target_named}
+use Rattle.td_model.specs.Catalog.{Catalog, target_named}
 use Rattle.td_model.specs.Tags.{number_of, cell_matches, tag_matches}
+use Rattle.td_verdict.specs.declared.source.Source.{Source}
+use Rattle.td_verdict.specs.declared.source.Source.TheVariants.{Table, Stable, Other}
 use Rattle.td_verdict.specs.declared.comparison.Comparison.{Comparison}
 use Rattle.td_verdict.specs.Fields.{comparisons_of}
-use Rattle.td_verdict.specs.Queries.{source_schema}
+use Rattle.td_verdict.specs.Queries.{source_of, source_schema}
 use Rattle.td_verdict.specs.Writes.{time_from}
 
 -- ---- tables
@@ -36,15 +38,19 @@ all_tables c = numbered 1 c.tables
 abbrev pub subtables_of : Catalog → List (ℕ × List Cell)
 subtables_of c = map (λ (e : Numbered). (e.0, e.1.tags)) (filter (λ (e : Numbered). is_some e.1.parent) (all_tables c))
 
--- whether a table is that of a number, or else a subtable of the supertable of a number
-abbrev pub is_in_source : Option ℕ → Option ℕ → Numbered → Bool
-is_in_source (Some n) stable e = e.0 == n
-is_in_source None None e = false
-is_in_source None (Some stable) e = option_map_or (λ parent. parent == stable) e.1.parent false
+-- whether a table is a subtable of the supertable of a number
+abbrev pub is_under : ℕ → TableDef → Bool
+is_under stable t = option_map_or (λ parent. parent == stable) t.parent false
+
+-- whether a table is that of a source, or a subtable of it
+abbrev pub is_in_source : Source → Numbered → Bool
+is_in_source (Table n) e = e.0 == n
+is_in_source (Stable n) e = is_under n e.1
+is_in_source Other e = false
 
 -- the tables of a source, by number: the table of its name, or all subtables of the supertable of its name
 abbrev pub source_tables : List ℕ → Catalog → List Numbered
-source_tables source c = filter (is_in_source (table_named source c) (stable_named source c)) (all_tables c)
+source_tables source c = filter (is_in_source (source_of source c)) (all_tables c)
 
 -- whether a comparison is true of a table's name and tags, where it is of one of these: the name is at place 0, and the tags stand
 -- behind the columns
@@ -57,16 +63,15 @@ abbrev pub all_hold_of_table : ℕ → List Comparison → List ℕ → List Cel
 all_hold_of_table columns [] name tags = true
 all_hold_of_table columns (p ∷ ps) name tags = if holds_of_table columns name tags p then all_hold_of_table columns ps name tags else false
 
--- whether a table of a source is read: a source's own table is, and so is a subtable that the comparisons leave
-abbrev pub is_read : Option ℕ → ℕ → List Comparison → Numbered → Bool
-is_read (Some table) columns ps e = true
-is_read None columns ps e = all_hold_of_table columns ps e.1.name e.1.tags
+-- whether a table is read: a source's own table is, and a subtable of it that the comparisons leave
+abbrev pub is_read : Source → ℕ → List Comparison → Numbered → Bool
+is_read (Table n) columns ps e = e.0 == n
+is_read (Stable n) columns ps e = is_under n e.1 && all_hold_of_table columns ps e.1.name e.1.tags
+is_read Other columns ps e = false
 
--- the tables of a source that are read
-abbrev pub planned : Query → Catalog → List Numbered
-planned q c =
-    filter (is_read (table_named q.source c) (length (source_schema q.source c).columns) (comparisons_of (source_schema q.source c) q.conds))
-    (source_tables q.source c)
+-- the tables that are read, of a source whose tables have so many columns
+abbrev pub planned : Source → ℕ → List Comparison → Catalog → List Numbered
+planned source columns ps c = filter (is_read source columns ps) (all_tables c)
 
 -- ---- timestamps
 
@@ -122,8 +127,11 @@ plan_over q s tables ps target = record {
   target = target;
 }
 
+abbrev pub plan_from : Query → Source → Schema → Catalog → Plan
+plan_from q source s c = plan_over q s (planned source (length s.columns) (comparisons_of s q.conds) c) (comparisons_of s q.conds) (target_named q.source c)
+
 abbrev pub plan_of : Query → Catalog → Plan
-plan_of q c = plan_over q (source_schema q.source c) (planned q c) (comparisons_of (source_schema q.source c) q.conds) (target_named q.source c)
+plan_of q c = plan_from q (source_of q.source c) (source_schema q.source c) c
 
 -- whether a plan is of a table, and not of a supertable: names share one space, so it is where its first table has the source's name
 abbrev pub is_of_table : List (List ℕ) → List ℕ → Bool

@@ -12,7 +12,7 @@ use Rattle.td_layer.specs.declared.values.Cell.TheVariants as cell
 use Rattle.td_model.specs.declared.language.Lit.{Lit}
 use Rattle.td_model.specs.declared.language.Lit.TheVariants as lit
 use Rattle.td_limits.specs.declared.limits.TheConstants.{TAG_BYTES}
-use Rattle.td_lex.specs.Stamps.{timestamp_of}
+use Rattle.td_times.specs.Stamps.{timestamp_of}
 use Rattle.td_verdict.specs.Names.{is_time}
 
 abbrev pub is_truth : Kind → Bool
