@@ -9,6 +9,7 @@ use crate::rows::RowMap;
 use std::alloc::Global;
 use std::collections::BTreeMap;
 use std::collections::btree_map::Range;
+use std::ops::Bound;
 use td_layer::{Key, NoMem, Row};
 use td_model::Put;
 
@@ -117,6 +118,7 @@ impl RowMap for OrderedRows {
         if hi < lo {
             return self.map.range(from..from);
         }
-        self.map.range(from..=Key { table, ts: hi })
+        let to = Key { table, ts: hi };
+        self.map.range((Bound::Included(from), Bound::Included(to)))
     }
 }
