@@ -1,23 +1,25 @@
 -- The tables of a catalog by number, and those that a query reads, found in two ways.
-use Rattle.std.proofs.Common.{inl, inr, option_map, ◌≡◌, ℕ, suc, ◌+◌, ◌-◌, ◌<◌, ◌≤◌, ◌==◌, ◌⊎◌, Bool, true, false, cond, ◌&&◌, List, [], ◌∷◌, ◌++◌, map, append-nil, map-id, filter, length, slice_get, Option, Some, None, is_some, refl, sym, ap, subst, ◌∙◌, arith, nat_lt}
+use Rattle.std.proofs.Common.{inl, inr, option_map, ◌≡◌, ℕ, suc, ◌+◌, ◌-◌, ◌<◌, ◌≤◌, ◌==◌, ◌⊎◌, Bool, true, false, cond, ◌&&◌, List, [], ◌∷◌, ◌++◌, map, append-nil, map-id, filter, length, slice_get, Option, Some, None, is_some, refl, sym, ap, subst, ◌∙◌, arith, nat_lt, nat_eq}
 use Rattle.std.specs.List.{AllByRecursion, range_with_len}
 use Rattle.std.specs.Option.{option_map_or}
-use Rattle.std.proofs.lemmas.Option.{same_Some}
+use Rattle.std.proofs.lemmas.Option.{same_Some, slice_get_cases}
+use Rattle.std.proofs.lemmas.Bool.Decides.{nat_tests}
 use Rattle.std.proofs.lemmas.List.FromFn.{filter_of_map_range_with_len_more}
 use Rattle.std.proofs.lemmas.Bool.{eq-eqb, ne_eqb, cases_eq, and_parts}
 use Rattle.std.proofs.lemmas.List.Elements.{All-from_recursion, All-map}
 use Rattle.td_layer.specs.declared.values.Cell.{Cell}
+use Rattle.td_layer.specs.declared.values.Cell.TheVariants as cell
 use Rattle.td_model.specs.declared.catalog.TableDef.{TableDef}
 use Rattle.td_model.specs.declared.language.Op.{Op}
 use Rattle.td_model.specs.Catalog.{Catalog, table_at}
-use Rattle.td_model.specs.Tags.{matching, tag_matches}
+use Rattle.td_model.specs.Tags.{matching, cell_matches, tag_matches}
 use Rattle.td_catalog.specs.Kept.{IsNumbered}
 use Rattle.td_verdict.specs.declared.comparison.Comparison.{Comparison}
-use Rattle.td_verdict.specs.Plans.{Numbered, numbered, all_tables, subtables_of, all_hold_of_tags}
-use Rattle.td_bind.specs.declared.tables.Named.{Named}
-use Rattle.td_bind.specs.declared.tables.Named.TheVariants.{Table, Stable}
-use Rattle.td_bind.specs.Tables.{is_under, is_of, planned_of, numbers_of, is_planned, tags_at, name_at, first_of_tag, AreThere}
-use Rattle.td_bind.proofs.Filters.{filter_filter, filter_implied, filter_agreeing, filter-map, map_map, map_agreeing, all-filter, all_weaker}
+use Rattle.td_verdict.specs.declared.source.Source.{Source}
+use Rattle.td_verdict.specs.declared.source.Source.TheVariants.{Table, Stable, Other}
+use Rattle.td_verdict.specs.Plans.{Numbered, numbered, all_tables, subtables_of, is_under, is_read, planned, holds_of_table, all_hold_of_table}
+use Rattle.td_bind.specs.Tables.{numbers_of, is_planned, is_indexed, tags_at, name_at, first_indexed, AreThere}
+use Rattle.td_bind.proofs.Filters.{filter_implied, filter_agreeing, filter-map, map_map, map_agreeing, all-filter, all_weaker}
 
 -- ---- tables by number
 
@@ -92,14 +94,14 @@ had_by_number c f d es h =
 
 -- ---- the tables that are planned
 
-pub planned_known : (named : Named) (columns : ℕ) (ps : List Comparison) (c : Catalog) → AllByRecursion (IsKnown c) (planned_of named columns ps c)
-planned_known named columns ps c = all-filter (IsKnown c) (λ (e : Numbered). all_hold_of_tags columns ps e.1.tags) (filter (is_of named) (all_tables c)) (all-filter (IsKnown c) (is_of named) (all_tables c) (all_known c))
+pub planned_known : (source : Source) (columns : ℕ) (ps : List Comparison) (c : Catalog) → AllByRecursion (IsKnown c) (planned source columns ps c)
+planned_known source columns ps c = all-filter (IsKnown c) (is_read source columns ps) (all_tables c) (all_known c)
 
-pub planned_tags : (named : Named) (columns : ℕ) (ps : List Comparison) (c : Catalog) → map (tags_at c) (numbers_of (planned_of named columns ps c)) ≡ map (λ (e : Numbered). e.1.tags) (planned_of named columns ps c)
-planned_tags named columns ps c = had_by_number c (λ (t : TableDef). t.tags) [] (planned_of named columns ps c) (planned_known named columns ps c)
+pub planned_tags : (source : Source) (columns : ℕ) (ps : List Comparison) (c : Catalog) → map (tags_at c) (numbers_of (planned source columns ps c)) ≡ map (λ (e : Numbered). e.1.tags) (planned source columns ps c)
+planned_tags source columns ps c = had_by_number c (λ (t : TableDef). t.tags) [] (planned source columns ps c) (planned_known source columns ps c)
 
-pub planned_names : (named : Named) (columns : ℕ) (ps : List Comparison) (c : Catalog) → map (name_at c) (numbers_of (planned_of named columns ps c)) ≡ map (λ (e : Numbered). e.1.name) (planned_of named columns ps c)
-planned_names named columns ps c = had_by_number c (λ (t : TableDef). t.name) [] (planned_of named columns ps c) (planned_known named columns ps c)
+pub planned_names : (source : Source) (columns : ℕ) (ps : List Comparison) (c : Catalog) → map (name_at c) (numbers_of (planned source columns ps c)) ≡ map (λ (e : Numbered). e.1.name) (planned source columns ps c)
+planned_names source columns ps c = had_by_number c (λ (t : TableDef). t.name) [] (planned source columns ps c) (planned_known source columns ps c)
 
 -- ---- one table
 
@@ -132,40 +134,33 @@ one_of m n (u ∷ ts) t h is =
           (one_of m (n + 1) ts t more (ap (slice_get (u ∷ ts)) (sym next) ∙ is)))
     ]
 
-had : (o : Option TableDef) (tags : List Cell) → option_map (λ (t : TableDef). t.tags) o ≡ Some tags → (t : TableDef) × (o ≡ Some t) × (t.tags ≡ tags)
-had None tags h = absurd (cc)
-had (Some t) tags h = (t, refl, same_Some t.tags tags h)
+-- the one table of a number
+pub one_table : (n : ℕ) (c : Catalog) → IsNumbered n (length c.tables) → (t : TableDef) × (table_at n c ≡ Some t) × (filter (λ (e : Numbered). e.0 == n) (all_tables c) ≡ (n, t) ∷ [])
+one_table n c numbered =
+    let from : 1 ≤ n = numbered.0 in
+    let upto : n ≤ length c.tables = numbered.1 in
+    elim ((slice_get_cases c.tables (n - 1)).1) [
+      | inl w ↦ (w.0, w.2, one_of n 1 c.tables w.0 from w.2)
+      | inr w ↦ absurd (omega (arith, w.0))
+    ]
 
-one_kept : (b : Bool) (n : ℕ) (t : TableDef) → numbers_of (cond b ((n, t) ∷ []) []) ≡ cond b (n ∷ []) []
-one_kept true n t = refl
-one_kept false n t = refl
+pub one_planned : (n columns : ℕ) (ps : List Comparison) (c : Catalog) → IsNumbered n (length c.tables) → n ∷ [] ≡ numbers_of (planned (Table n) columns ps c)
+one_planned n columns ps c numbered = sym (ap numbers_of (one_table n c numbered).2)
 
--- the table of a number, with its tags, is planned or not
-one_planned : (n columns : ℕ) (ps : List Comparison) (c : Catalog) (tags : List Cell) → IsNumbered n (length c.tables) → option_map (λ (t : TableDef). t.tags) (table_at n c) ≡ Some tags → numbers_of (planned_of (Table n) columns ps c) ≡ cond (all_hold_of_tags columns ps tags) (n ∷ []) []
-one_planned n columns ps c tags numbered h =
-    let found = had (table_at n c) tags h in
-    let t = found.0 in
-    ap (λ es. numbers_of (filter (λ (e : Numbered). all_hold_of_tags columns ps e.1.tags) es)) (one_of n 1 c.tables t numbered.0 found.1)
-    ∙ one_kept (all_hold_of_tags columns ps t.tags) n t
-    ∙ ap (λ own. cond (all_hold_of_tags columns ps own) (n ∷ []) []) found.2
-
-pub one_in : (n columns : ℕ) (ps : List Comparison) (c : Catalog) (tags : List Cell) → IsNumbered n (length c.tables) → option_map (λ (t : TableDef). t.tags) (table_at n c) ≡ Some tags → all_hold_of_tags columns ps tags ≡ true → n ∷ [] ≡ numbers_of (planned_of (Table n) columns ps c)
-one_in n columns ps c tags numbered h holds = sym (one_planned n columns ps c tags numbered h ∙ ap (λ b. cond b (n ∷ []) []) holds)
-
-pub one_out : (n columns : ℕ) (ps : List Comparison) (c : Catalog) (tags : List Cell) → IsNumbered n (length c.tables) → option_map (λ (t : TableDef). t.tags) (table_at n c) ≡ Some tags → all_hold_of_tags columns ps tags ≡ false → [] ≡ numbers_of (planned_of (Table n) columns ps c)
-one_out n columns ps c tags numbered h holds = sym (one_planned n columns ps c tags numbered h ∙ ap (λ b. cond b (n ∷ []) []) holds)
+pub none_planned : (columns : ℕ) (ps : List Comparison) (c : Catalog) → [] ≡ numbers_of (planned Other columns ps c)
+none_planned columns ps c = sym (ap numbers_of (none_kept (all_tables c)))
+  where
+    none_kept : (es : List Numbered) → filter (is_read Other columns ps) es ≡ []
+    none_kept [] = refl
+    none_kept (e ∷ es) = none_kept es
 
 -- ---- the subtables of a supertable
 
-planned_under : (stable columns : ℕ) (ps : List Comparison) (c : Catalog) → planned_of (Stable stable) columns ps c ≡ filter (λ (e : Numbered). is_under stable e.1 && all_hold_of_tags columns ps e.1.tags) (all_tables c)
-planned_under stable columns ps c = filter_filter (λ (e : Numbered). all_hold_of_tags columns ps e.1.tags) (is_of (Stable stable)) (all_tables c)
-
 -- found among all tables
-pub planned_from_all : (stable columns : ℕ) (ps : List Comparison) (c : Catalog) → filter (is_planned stable columns ps c) (range_with_len 1 (length c.tables)) ≡ numbers_of (planned_of (Stable stable) columns ps c)
+pub planned_from_all : (stable columns : ℕ) (ps : List Comparison) (c : Catalog) → filter (is_planned stable columns ps c) (range_with_len 1 (length c.tables)) ≡ numbers_of (planned (Stable stable) columns ps c)
 planned_from_all stable columns ps c =
     ap (filter (is_planned stable columns ps c)) (sym (numbers_of_all 1 c.tables))
-    ∙ kept_by_number c (λ (t : TableDef). is_under stable t && all_hold_of_tags columns ps t.tags) (all_tables c) (all_known c)
-    ∙ ap numbers_of (sym (planned_under stable columns ps c))
+    ∙ kept_by_number c (λ (t : TableDef). is_under stable t && all_hold_of_table columns ps t.name t.tags) (all_tables c) (all_known c)
 
 -- the numbers that the index finds are those of known tables
 matched : ℕ → Op → Cell → Catalog → List Numbered
@@ -186,39 +181,49 @@ pub matching_there : (tag : ℕ) (p : Op) (lit : Cell) (c : Catalog) → AreTher
 matching_there tag p lit c = subst (AreThere c) (sym (matching_is tag p lit c)) (are_there c (matched tag p lit c) (matched_known tag p lit c))
 
 -- a comparison that is found first, or found among the rest
-first_or_rest : (b m x : Bool) (q p : Comparison) (rest : Option Comparison) → cond b (Some q) rest ≡ Some p → cond (cond b m true) x false ≡ true → ((q ≡ p) × (m ≡ true)) ⊎ ((rest ≡ Some p) × (x ≡ true))
-first_or_rest true true x q p rest h k = inl (same_Some q p h, refl)
-first_or_rest true false x q p rest h k = inl (same_Some q p h, k)
-first_or_rest false m x q p rest h k = inr (h, k)
+first_or_rest : (b m x : Bool) (q p : Comparison) (rest : Option Comparison) → cond b (Some q) rest ≡ Some p → cond m x false ≡ true → ((q ≡ p) × (b ≡ true) × (m ≡ true)) ⊎ ((rest ≡ Some p) × (x ≡ true))
+first_or_rest true true x q p rest h k = inl (same_Some q p h, refl, refl)
+first_or_rest true false x q p rest h k = absurd (cc)
+first_or_rest false true x q p rest h k = inr (h, k)
+first_or_rest false false x q p rest h k = absurd (cc)
 
--- where all comparisons of tags are true of a table's tags, the first of them is
-first_holds : (columns : ℕ) (ps : List Comparison) (p : Comparison) (tags : List Cell) → first_of_tag columns ps ≡ Some p → all_hold_of_tags columns ps tags ≡ true → tag_matches (p.place - (columns + 1)) p.op p.operand tags ≡ true
-first_holds columns [] p tags h k = absurd (cc)
-first_holds columns (q ∷ ps) p tags h k =
-    elim (first_or_rest (nat_lt columns q.place) (tag_matches (q.place - (columns + 1)) q.op q.operand tags) (all_hold_of_tags columns ps tags) q p (first_of_tag columns ps) h k) [
-      | inl w ↦ (ap (λ (r : Comparison). tag_matches (r.place - (columns + 1)) r.op r.operand tags) (sym w.0) ∙ w.1)
-      | inr w ↦ first_holds columns ps p tags w.0 w.1
+-- a comparison of a tag isn't one of the name
+of_tag : (columns : ℕ) (name : List ℕ) (tags : List Cell) (p : Comparison) → nat_lt columns p.place ≡ true → holds_of_table columns name tags p ≡ tag_matches (p.place - (columns + 1)) p.op p.operand tags
+of_tag columns name tags p h =
+    let apart : nat_eq p.place 0 ≡ false = grind (arith, nat_tests) in
+    ap (λ b. cond b (cell_matches p.op (cell.Str name) p.operand) (cond (nat_lt columns p.place) (tag_matches (p.place - (columns + 1)) p.op p.operand tags) true)) apart
+    ∙ ap (λ b. cond b (tag_matches (p.place - (columns + 1)) p.op p.operand tags) true) h
+
+-- where all comparisons are true of a table's name and tags, the first of a tag for which the index serves is
+first_holds : (columns : ℕ) (ps : List Comparison) (p : Comparison) (name : List ℕ) (tags : List Cell) → first_indexed columns ps ≡ Some p → all_hold_of_table columns ps name tags ≡ true → tag_matches (p.place - (columns + 1)) p.op p.operand tags ≡ true
+first_holds columns [] p name tags h k = absurd (cc)
+first_holds columns (q ∷ ps) p name tags h k =
+    elim (first_or_rest (nat_lt columns q.place && is_indexed q.op) (holds_of_table columns name tags q) (all_hold_of_table columns ps name tags) q p (first_indexed columns ps) h k) [
+      | inl w ↦ (
+          let place = (and_parts (nat_lt columns q.place) (is_indexed q.op) w.1).0 in
+          ap (λ (r : Comparison). tag_matches (r.place - (columns + 1)) r.op r.operand tags) (sym w.0) ∙ sym (of_tag columns name tags q place) ∙ w.2)
+      | inr w ↦ first_holds columns ps p name tags w.0 w.1
     ]
 
 has_parent : (stable : ℕ) (o : Option ℕ) → option_map_or (λ parent. parent == stable) o false ≡ true → is_some o ≡ true
 has_parent stable None h = h
 has_parent stable (Some n) h = refl
 
--- found among those that the index finds for the first comparison of a tag
-module _ (stable columns : ℕ) (ps : List Comparison) (p : Comparison) (c : Catalog) (first : first_of_tag columns ps ≡ Some p) where
+-- found among those that the index finds for that comparison
+module _ (stable columns : ℕ) (ps : List Comparison) (p : Comparison) (c : Catalog) (first : first_indexed columns ps ≡ Some p) where
   among : Numbered → Bool
-  among e = is_under stable e.1 && all_hold_of_tags columns ps e.1.tags
+  among e = is_under stable e.1 && all_hold_of_table columns ps e.1.name e.1.tags
 
   matches : Numbered → Bool
   matches e = tag_matches (p.place - (columns + 1)) p.op p.operand e.1.tags
 
   kept_matches : (e : Numbered) → among e ≡ true → matches e ≡ true
   unfolding among matches
-  kept_matches e h = first_holds columns ps p e.1.tags first ((and_parts (is_under stable e.1) (all_hold_of_tags columns ps e.1.tags) h).1)
+  kept_matches e h = first_holds columns ps p e.1.name e.1.tags first ((and_parts (is_under stable e.1) (all_hold_of_table columns ps e.1.name e.1.tags) h).1)
 
   kept_under : (e : Numbered) → among e ≡ true → is_some e.1.parent ≡ true
   unfolding among
-  kept_under e h = has_parent stable e.1.parent ((and_parts (is_under stable e.1) (all_hold_of_tags columns ps e.1.tags) h).0)
+  kept_under e h = has_parent stable e.1.parent ((and_parts (is_under stable e.1) (all_hold_of_table columns ps e.1.name e.1.tags) h).0)
 
   all_kept : filter among (matched (p.place - (columns + 1)) p.op p.operand c) ≡ filter among (all_tables c)
   unfolding matched matches
@@ -226,10 +231,9 @@ module _ (stable columns : ℕ) (ps : List Comparison) (p : Comparison) (c : Cat
       let subtables = filter (λ (e : Numbered). is_some e.1.parent) (all_tables c) in
       filter_implied among matches kept_matches subtables ∙ filter_implied among (λ (e : Numbered). is_some e.1.parent) kept_under (all_tables c)
 
-  pub planned_from_found : filter (is_planned stable columns ps c) (matching (p.place - (columns + 1)) p.op p.operand (subtables_of c)) ≡ numbers_of (planned_of (Stable stable) columns ps c)
+  pub planned_from_found : filter (is_planned stable columns ps c) (matching (p.place - (columns + 1)) p.op p.operand (subtables_of c)) ≡ numbers_of (planned (Stable stable) columns ps c)
   unfolding among
   planned_from_found =
       ap (filter (is_planned stable columns ps c)) (matching_is (p.place - (columns + 1)) p.op p.operand c)
-      ∙ kept_by_number c (λ (t : TableDef). is_under stable t && all_hold_of_tags columns ps t.tags) (matched (p.place - (columns + 1)) p.op p.operand c) (matched_known (p.place - (columns + 1)) p.op p.operand c)
+      ∙ kept_by_number c (λ (t : TableDef). is_under stable t && all_hold_of_table columns ps t.name t.tags) (matched (p.place - (columns + 1)) p.op p.operand c) (matched_known (p.place - (columns + 1)) p.op p.operand c)
       ∙ ap numbers_of all_kept
-      ∙ ap numbers_of (sym (planned_under stable columns ps c))

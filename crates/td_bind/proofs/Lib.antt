@@ -1,10 +1,12 @@
-pub mod Times
 pub mod Lists
 pub mod Numbers
-pub mod PutsBySlots
-pub mod Follows
 pub mod Twice
-pub mod Places
 pub mod Filters
 pub mod ByNumber
 pub mod Planned
+pub mod Schemas
+pub mod Suited
+pub mod Read
+pub mod MadeSub
+pub mod SoundPlans
+pub mod Follows

@@ -1,30 +1,16 @@
 //! Lists of columns: their names, and the first at which something is wrong.
-ghost use Rattle.std.specs.Prelude.{◌≡◌, ◌++◌, not, OnOk, IfOk};
+ghost use Rattle.std.specs.Prelude.{◌≡◌, not, IfOk};
 ghost use Rattle.std.specs.List.{find};
 ghost use Rattle.std.specs.Option.{option_copied};
 ghost use Rattle.td_model.specs.declared.catalog.Column.{Column};
-ghost use Rattle.td_verdict.specs.Names.{names_of};
 ghost use Rattle.td_verdict.specs.Values.{has_width};
 ghost use Rattle.td_verdict.specs.Writes.{have_one_name, width_cause, mismatch_of, outside_of};
 
 use crate::seen::stands_twice;
-use crate::values::has_width;
 use std::alloc::Global;
-use td_layer::{Copied, Name, NoMem, Seq};
+use td_fields::{add_names, has_width};
+use td_layer::{Copied, NoMem, Seq};
 use td_model::{Cause, Column};
-
-// Adds copies of the columns' names.
-pub(crate) fn add_names(names: &mut Seq<Name>, columns: &[Column]) -> Result<(), NoMem>
-    ensures { OnOk result (names.new ≡ names.old ++ names_of columns.now) }
-{
-    for column in columns {
-        let name = column.name.copy()?;
-        if names.push(name).is_err() {
-            return Err(NoMem);
-        }
-    }
-    Ok(())
-}
 
 // Whether two columns or tags have one name.
 pub(crate) fn have_one_name(
@@ -41,7 +27,7 @@ pub(crate) fn have_one_name(
     Ok(twice)
 }
 
-// The first column whose text's bytes are outside 1 to 4096.
+// The first column whose text has no byte or too many.
 fn first_bad_width(columns: &[Column]) -> Option<&Column>
     ensures { option_copied result ≡ find (λ c. not (has_width c.kind)) columns.now }
 {
@@ -74,7 +60,7 @@ pub(crate) fn mismatch_of(found: Option<&Column>) -> Result<Option<Cause>, NoMem
     }
 }
 
-// Out of range at the first column whose text's bytes are outside 1 to 4096.
+// Out of range at the first column whose text has no byte or too many.
 pub(crate) fn width_cause(columns: &[Column]) -> Result<Option<Cause>, NoMem>
     ensures { IfOk result (λ cause. cause ≡ width_cause columns.now) }
 {

@@ -3,6 +3,7 @@ ghost use Rattle.std.specs.Prelude.{◌≡◌, IfSome, Some};
 ghost use Rattle.std.specs.Option.{option_map};
 ghost use Rattle.td_model.specs.Catalog.{stable_named, table_named};
 ghost use Rattle.td_verdict.specs.Names.{stable_schema, table_schema};
+ghost use Rattle.td_verdict.specs.Valid.{IsSchema};
 ghost use Rattle.td_verdict.specs.Writes.{written_cause};
 
 use crate::names::is_taken;
@@ -25,8 +26,10 @@ pub(crate) fn find_stable<'a>(catalog: &'a Catalog, name: &Name) -> Option<(u32,
 pub(crate) fn find_table<'a>(catalog: &'a Catalog, name: &Name) -> Option<(u32, &'a Schema)>
     ensures number { option_map (λ p. p.0) result ≡ table_named name.now catalog.now.catalog }
     ensures schema { IfSome result (λ p. p.1.now ≡ table_schema (Some p.0) catalog.now.catalog) }
+    ensures valid { IfSome result (λ p. IsSchema p.1.now.columns p.1.now.tags) }
 {
     let number = catalog.find_table(name)?;
+    catalog.is_valid();
     Some((number, catalog.schema_of(number)))
 }
 

@@ -1,33 +1,23 @@
 //! INSERT.
-ghost use Rattle.std.specs.Prelude.{◌≡◌, ◌<◌, ◌≤◌, ◌^◌, Bool, [], IfOk, OnSome, OnOk, IfNone, length, None, is_none, not, ◌==◌, nat_lt};
-ghost use Rattle.std.specs.List.{filter_map, find, list_any};
+ghost use Rattle.std.specs.Prelude.{◌≡◌, Bool, IfOk, length, false, is_none, not, ◌==◌, map};
+ghost use Rattle.std.specs.List.{filter_map, list_any};
 ghost use Rattle.std.specs.Option.{option_copied};
-ghost use Rattle.td_verdict.specs.Names.{column_named, is_first};
-ghost use Rattle.td_verdict.specs.Writes.{time_at, written_cause, list_cause, groups_cause, rows_cause, groups_verdict, chosen, is_before, insert_in, insert_verdict};
+ghost use Rattle.td_verdict.specs.Names.{column_named, is_first, lacks_time};
+ghost use Rattle.td_verdict.specs.Writes.{list_cause, groups_verdict, is_before, insert_verdict};
 ghost use Rattle.td_bind.specs.Answers.{verdict_of};
+ghost use Rattle.td_bind.specs.Literals.{time_said, rows_said, said_cause, HasKinds};
 
 use crate::columns::{mismatch_of, outside_of};
 use crate::found::{find_table, written_cause};
-use crate::groups::{Fault, first_in_groups};
-use crate::names::{is_first, same};
+use crate::literals::{Fault, first_in_groups, said_groups};
+use crate::puts::{first_place, puts_of, time_said};
 use crate::seen::stands_twice;
-use crate::slots::{first_place, puts_of, time_at};
 use std::alloc::Global;
 use td_catalog::Catalog;
+use td_fields::{Said, column_named, is_first};
 use td_layer::{Copied, Name, NoMem, Seq};
+use td_limits::{DAY_RANGE, INSERT_ROWS};
 use td_model::{Cause, Column, Lit, Many, What};
-
-/// The most groups of an INSERT.
-const MOST_ROWS: usize = 16_384;
-/// A day range in milliseconds.
-const DAY_RANGE: i128 = 864_000_000;
-
-// The column of a name.
-pub(crate) fn column_named<'a>(columns: &'a [Column], name: &Name) -> Option<&'a Column>
-    ensures { option_copied result ≡ column_named columns.now name.now }
-{
-    columns.iter().find(|column| same(&column.name, name))
-}
 
 // Whether a list has the first column's name.
 fn lists_first(columns: &[Column], names: &[Name]) -> bool
@@ -82,9 +72,7 @@ fn chosen(alloc: Global, columns: &[Column], names: &[Name]) -> Result<Seq<Colum
     for name in names {
         if let Some(column) = column_named(columns, name) {
             let column = column.copy()?;
-            if places.push(column).is_err() {
-                return Err(NoMem);
-            }
+            places.add(column)?;
         }
     }
     Ok(places)
@@ -95,22 +83,22 @@ fn is_before(edge: u32, ts: Option<i128>) -> bool
     ensures { result ≡ is_before edge ts }
 {
     match ts {
-        Some(ts) => ts < i128::from(edge) * DAY_RANGE,
+        Some(ts) => ts < i128::from(edge) * i128::from(DAY_RANGE),
         None => false,
     }
 }
 
-fn is_group_before(edge: u32, moment: u64, group: &[Lit], first: Option<usize>) -> bool
-    ensures { result ≡ is_before edge (time_at moment group.now first) }
+fn is_group_before(edge: u32, said: &[Said], first: Option<usize>) -> bool
+    ensures { result ≡ is_before edge (time_said said.now first) }
 {
-    is_before(edge, time_at(moment, group, first))
+    is_before(edge, time_said(said, first))
 }
 
 // Whether the timestamp of a group lies before an edge.
-fn any_before(edge: u32, moment: u64, groups: &[Seq<Lit>], first: Option<usize>) -> bool
-    ensures { result ≡ list_any (λ group. is_before edge (time_at moment group first)) groups.now }
+fn any_before(edge: u32, groups: &[Seq<Said>], first: Option<usize>) -> bool
+    ensures { result ≡ list_any (λ said. is_before edge (time_said said first)) groups.now }
 {
-    groups.iter().any(|group| is_group_before(edge, moment, group.as_slice(), first))
+    groups.iter().any(|said| is_group_before(edge, said.as_slice(), first))
 }
 
 // Whether a group has another count of literals.
@@ -124,50 +112,45 @@ fn has_other_length(groups: &[Seq<Lit>], count: usize) -> bool
 fn rows_cause(
     columns: &[Column],
     places: &[Column],
-    groups: &[Seq<Lit>],
+    groups: &[Seq<Said>],
     edge: u32,
-    moment: u64,
 ) -> Option<Cause>
-    ensures { result ≡ rows_cause columns.now places.now groups.now edge moment }
+    ensures { result ≡ rows_said columns.now places.now groups.now edge }
 {
-    if groups.len() > MOST_ROWS {
+    if groups.len() > INSERT_ROWS {
         return Some(Cause::TooMany {
             what: Many::Rows,
-            limit: 16_384,
+            limit: INSERT_ROWS as u64,
         });
     }
     let first = first_place(columns, places);
-    if any_before(edge, moment, groups, first) {
+    if any_before(edge, groups, first) {
         return Some(Cause::BeforeEdge { edge });
     }
     None
 }
 
-// Why groups are refused, whose literals stand at the columns `places`, if they are.
-fn groups_cause(
+// Why what groups say at the columns `places` is refused, if it is.
+fn said_cause(
     columns: &[Column],
     places: &[Column],
-    groups: &[Seq<Lit>],
+    groups: &[Seq<Said>],
     edge: u32,
-    moment: u64,
 ) -> Result<Option<Cause>, NoMem>
-    ensures { IfOk result (λ cause. cause ≡ groups_cause columns.now places.now groups.now edge moment) }
+    ensures { IfOk result (λ cause. cause ≡ said_cause columns.now places.now groups.now edge) }
 {
-    if has_other_length(groups, places.len()) {
-        return Ok(Some(Cause::Arity));
-    }
-    let mismatch = mismatch_of(first_in_groups(Fault::Mismatch, columns, places, groups, moment))?;
+    let mismatch = mismatch_of(first_in_groups(Fault::Mismatch, columns, places, groups))?;
     if mismatch.is_some() {
         return Ok(mismatch);
     }
-    let outside = outside_of(first_in_groups(Fault::Outside, columns, places, groups, moment))?;
+    let outside = outside_of(first_in_groups(Fault::Outside, columns, places, groups))?;
     if outside.is_some() {
         return Ok(outside);
     }
-    Ok(rows_cause(columns, places, groups, edge, moment))
+    Ok(rows_cause(columns, places, groups, edge))
 }
 
-// What the groups of an INSERT into a table meet, where its list of columns isn't refused.
+// What the groups of an INSERT into a table meet, where its list of columns isn't refused. Each literal is read once.
 fn bind_groups(
     alloc: Global,
     table: u32,
@@ -177,19 +160,26 @@ fn bind_groups(
     edge: u32,
     moment: u64,
 ) -> Result<Result<(What, u32), Cause>, NoMem>
+    requires time { lacks_time columns.now ≡ false }
+    requires kinds { HasKinds columns.now places.now }
     ensures { IfOk result (λ answer. verdict_of answer ≡ groups_verdict table columns.now places.now groups.now edge moment) }
 {
-    let cause = groups_cause(columns, places, groups, edge, moment)?;
+    if has_other_length(groups, places.len()) {
+        return Ok(Err(Cause::Arity));
+    }
+    let said = said_groups(alloc, moment, places, groups)?;
+    let said = said.as_slice();
+    let cause = said_cause(columns, places, said, edge)?;
     if let Some(cause) = cause {
         return Ok(Err(cause));
     }
-    let puts = puts_of(alloc, table, columns, places, moment, groups)?;
+    let puts = puts_of(alloc, table, columns, places, said)?;
     Ok(Ok((What::Put(puts), groups.len() as u32)))
 }
 
-/// What INSERT meets in a catalog, at a retention edge and a moment in milliseconds since 1970. `names` are the columns that
-/// it lists.
-pub fn bind_insert(
+// What INSERT meets in a catalog, at a retention edge and a moment in milliseconds since 1970. `names` are the columns that
+// it lists.
+pub(crate) fn bind_insert(
     alloc: Global,
     table: &Name,
     names: Option<&Seq<Name>>,

@@ -5,10 +5,12 @@ ghost use Rattle.td_verdict.specs.Writes.{count_cause, size_cause, definition_ca
 ghost use Rattle.td_bind.specs.Answers.{verdict_of};
 
 use crate::columns::{have_one_name, width_cause};
-use crate::names::{is_full, is_taken, lacks_time};
+use crate::names::{is_full, is_taken};
 use std::alloc::Global;
 use td_catalog::Catalog;
+use td_fields::lacks_time;
 use td_layer::{Copied, Name, NoMem, Seq};
+use td_limits::{COLUMNS, TABLES, TAGS};
 use td_model::{Cause, Column, Many, Schema, What};
 
 // Why there is no place for a definition, if there is none.
@@ -18,19 +20,19 @@ fn count_cause(columns: &[Column], tags: &[Column], catalog: &Catalog) -> Option
     if is_full(catalog) {
         return Some(Cause::TooMany {
             what: Many::Tables,
-            limit: 1_048_576,
+            limit: TABLES as u64,
         });
     }
-    if columns.len() > 256 {
+    if columns.len() > COLUMNS {
         return Some(Cause::TooMany {
             what: Many::Columns,
-            limit: 256,
+            limit: COLUMNS as u64,
         });
     }
-    if tags.len() > 32 {
+    if tags.len() > TAGS {
         return Some(Cause::TooMany {
             what: Many::Tags,
-            limit: 32,
+            limit: TAGS as u64,
         });
     }
     None
@@ -79,8 +81,8 @@ fn definition_cause(
     Ok(cause)
 }
 
-/// What CREATE STABLE meets in a catalog.
-pub fn bind_make_stable(
+// What CREATE STABLE meets in a catalog.
+pub(crate) fn bind_make_stable(
     alloc: Global,
     name: &Name,
     columns: &Seq<Column>,
@@ -103,8 +105,8 @@ pub fn bind_make_stable(
     Ok(Ok((What::MakeStable { name, schema }, 0)))
 }
 
-/// What CREATE TABLE of a plain table meets in a catalog.
-pub fn bind_make_table(
+// What CREATE TABLE of a plain table meets in a catalog.
+pub(crate) fn bind_make_table(
     alloc: Global,
     name: &Name,
     columns: &Seq<Column>,

@@ -4,17 +4,11 @@ ghost use Rattle.td_verdict.specs.Writes.{bad_bound, cut_between, cut_of, delete
 ghost use Rattle.td_bind.specs.Answers.{verdict_of};
 
 use crate::found::{find_table, written_cause};
-use crate::names::is_first;
-use crate::slots::{LAST_TIME, time_from};
-use crate::values::number_at;
 use td_catalog::Catalog;
+use td_fields::{is_first, said_at, time_from};
 use td_layer::{Copied, Name, NoMem};
+use td_limits::{DAY_RANGE, KEEP, LAST_TIMESTAMP};
 use td_model::{Cause, Kind, Lit, What};
-
-/// A day range in milliseconds.
-const DAY_RANGE: u64 = 864_000_000;
-/// The time that rows are kept, in milliseconds: 3650 days.
-const KEEP: u64 = 315_360_000_000;
 
 // The timestamps from a bound to another, which lie in their range where there are any.
 fn cut_between(table: u32, lo: i128, hi: i128) -> What
@@ -38,7 +32,7 @@ fn cut_between(table: u32, lo: i128, hi: i128) -> What
 fn cut_of(table: u32, lo: i128, hi: i128) -> What
     ensures { result ≡ cut_of table lo hi }
 {
-    cut_between(table, lo.max(0), hi.min(LAST_TIME))
+    cut_between(table, lo.max(0), hi.min(i128::from(LAST_TIMESTAMP)))
 }
 
 // That a bound says no timestamp's number.
@@ -49,8 +43,8 @@ fn mismatch_at(column: &Name) -> Result<Cause, NoMem>
     Ok(Cause::TypeMismatch { column })
 }
 
-/// What DELETE meets in a catalog, at a moment in milliseconds since 1970.
-pub fn bind_delete(
+// What DELETE meets in a catalog, at a moment in milliseconds since 1970.
+pub(crate) fn bind_delete(
     table: &Name,
     column: &Name,
     lo: &Lit,
@@ -70,8 +64,8 @@ pub fn bind_delete(
         return Ok(Err(Cause::NeedsTime));
     }
     let bounds = (
-        number_at(Kind::Time, moment, lo),
-        number_at(Kind::Time, moment, hi),
+        said_at(Kind::Time, moment, lo).number(),
+        said_at(Kind::Time, moment, hi).number(),
     );
     let (Some(lo), Some(hi)) = bounds else {
         let cause = mismatch_at(column)?;
@@ -80,18 +74,18 @@ pub fn bind_delete(
     Ok(Ok((cut_of(number, lo, hi), 0)))
 }
 
-/// What TRIM meets at a retention edge and a moment in milliseconds since 1970: the edge rises to the day range of the moment
-/// 3650 days ago, and never falls.
-pub fn bind_trim(edge: u32, moment: u64) -> Result<(What, u32), Cause>
-    requires { moment ≤ 253402300799999 }
+// What TRIM meets at a retention edge and a moment in milliseconds since 1970: the edge rises to the day range of the moment
+// 3650 days ago, and never falls.
+pub(crate) fn bind_trim(edge: u32, moment: u64) -> Result<(What, u32), Cause>
+    requires { moment ≤ LAST_TIMESTAMP }
     ensures { verdict_of result ≡ trim_verdict edge moment }
 {
     let reached = moment.saturating_sub(KEEP) / DAY_RANGE;
     Ok((What::Edge(edge.max(reached as u32)), 0))
 }
 
-/// What DROP STREAM meets in a catalog.
-pub fn bind_drop_stream(name: &Name, catalog: &Catalog) -> Result<(What, u32), Cause>
+// What DROP STREAM meets in a catalog.
+pub(crate) fn bind_drop_stream(name: &Name, catalog: &Catalog) -> Result<(What, u32), Cause>
     ensures { verdict_of result ≡ drop_stream_verdict name.now catalog.now.catalog }
 {
     match catalog.find_stream(name) {

@@ -4,38 +4,16 @@ ghost use Rattle.std.specs.List.{list_any};
 ghost use Rattle.td_model.specs.declared.language.Item.{Item};
 ghost use Rattle.td_model.specs.declared.language.Cond.{Cond};
 ghost use Rattle.td_verdict.specs.Fields.{part_column, tbname_column};
-ghost use Rattle.td_verdict.specs.Streams.{is_whole, is_plain};
-ghost use Rattle.td_verdict.specs.Queries.{is_aggregate, is_row_query, reads_all, target_cause, is_unknown, is_item_unknown, is_part_unknown, is_window_start, is_order_unknown, has_unknown, mismatch_at, mismatch_cause, needs_window, is_order_other, is_bad_selection, is_count, is_bad_limit, body_cause};
+ghost use Rattle.td_verdict.specs.Streams.{is_plain};
+ghost use Rattle.td_verdict.specs.Values.{suits};
+ghost use Rattle.td_verdict.specs.Queries.{reads_all, is_unknown, is_item_unknown, is_part_unknown, is_window_start, is_order_unknown, has_unknown, mismatch_at, mismatch_cause, needs_window, is_order_other, is_bad_selection, is_count, is_bad_limit, body_cause};
 
 use crate::columns::mismatch_of;
-use crate::fields::{TBNAME, field_named};
-use crate::names::is_first;
-use crate::values::suits;
 use std::alloc::Global;
+use td_fields::{TBNAME, field_named, is_first, said_at};
 use td_layer::{Name, NoMem, Seq};
-use td_model::{Cause, Column, Cond, Item, ItemKind, OrderBy, PartBy, Query, Schema, WindowDef};
-
-/// The greatest count of rows of LIMIT or OFFSET.
-const MOST_ROWS: i128 = 4_294_967_295;
-
-fn is_aggregate(what: &ItemKind) -> bool
-    ensures { result ≡ is_aggregate what.now }
-{
-    matches!(what, ItemKind::CountAll | ItemKind::Fun(..))
-}
-
-// Whether an item of a select list is an aggregate.
-fn has_aggregate(items: &[Item]) -> bool
-    ensures { result ≡ list_any (λ (i : Item). is_aggregate i.what) items.now }
-{
-    items.iter().any(|item| is_aggregate(&item.what))
-}
-
-fn is_whole(window: &WindowDef) -> bool
-    ensures { result ≡ is_whole window.now }
-{
-    matches!(window, WindowDef::Whole)
-}
+use td_limits::LAST_COUNT;
+use td_model::{Cause, Column, Cond, Item, ItemKind, Lit, OrderBy, PartBy, Query, Schema};
 
 fn is_plain(order: &OrderBy) -> bool
     ensures { result ≡ is_plain order.now }
@@ -43,29 +21,11 @@ fn is_plain(order: &OrderBy) -> bool
     matches!(order, OrderBy::Plain)
 }
 
-// Whether a query is a SELECT without aggregate, window and PARTITION BY.
-pub(crate) fn is_row_query(query: &Query) -> bool
-    ensures { result ≡ is_row_query query.now }
-{
-    !has_aggregate(query.items.as_slice()) && is_whole(&query.window) && query.parts.is_empty()
-}
-
 // Whether a query is `SELECT *` with an optional LIMIT alone.
-fn reads_all(query: &Query) -> bool
+pub(crate) fn reads_all(query: &Query) -> bool
     ensures { result ≡ reads_all query.now }
 {
     query.star && query.conds.is_empty() && is_plain(&query.order) && query.skip == 0
-}
-
-// Why a query of a stream's target is refused.
-pub(crate) fn target_cause(query: &Query) -> Cause
-    ensures { result ≡ target_cause query.now }
-{
-    if reads_all(query) {
-        Cause::OptionNotBuilt
-    } else {
-        Cause::TargetOfStream
-    }
 }
 
 // Whether a name is no column or tag.
@@ -142,19 +102,27 @@ fn tbname_mismatch(alloc: Global) -> Result<Cause, NoMem>
     Ok(Cause::TypeMismatch { column })
 }
 
+// Whether a condition's literal suits a column.
+#[tactic(auto, using(td_fields::proofs::Read::suits_read))]
+fn suits_column(column: &Column, lit: &Lit) -> bool
+    ensures { result ≡ suits column.now.kind 0 lit.now }
+{
+    said_at(column.kind, 0, lit).suits()
+}
+
 // That a condition's literal doesn't suit what the condition is of, if it doesn't.
 fn mismatch_at(alloc: Global, schema: &Schema, cond: &Cond) -> Result<Option<Cause>, NoMem>
     ensures { IfOk result (λ cause. cause ≡ mismatch_at (part_column schema.now cond.now.of) cond.now) }
 {
     match &cond.of {
-        PartBy::TbName if suits(TBNAME, 0, &cond.lit) => Ok(None),
+        PartBy::TbName if said_at(TBNAME, 0, &cond.lit).suits() => Ok(None),
         PartBy::TbName => {
             let cause = tbname_mismatch(alloc)?;
             Ok(Some(cause))
         }
         PartBy::Tag(name) => {
             let field = field_named(schema, name);
-            let cause = mismatch_of(field.filter(|column| !suits(column.kind, 0, &cond.lit)))?;
+            let cause = mismatch_of(field.filter(|column| !suits_column(column, &cond.lit)))?;
             Ok(cause)
         }
     }
@@ -207,7 +175,7 @@ fn is_bad_selection(schema: &Schema, query: &Query) -> bool
 fn is_count(n: i128) -> bool
     ensures { result ≡ is_count n }
 {
-    0 <= n && n <= MOST_ROWS
+    0 <= n && n <= i128::from(LAST_COUNT)
 }
 
 fn is_bad_limit(query: &Query) -> bool

@@ -1,66 +1,67 @@
 //! CREATE TABLE of a subtable.
-ghost use Rattle.std.specs.Prelude.{◌≡◌, [], IfOk};
-ghost use Rattle.td_verdict.specs.Writes.{stable_cause, tags_cause, tag_cells, make_sub_verdict};
+ghost use Rattle.std.specs.Prelude.{◌≡◌, IfOk};
+ghost use Rattle.td_verdict.specs.Writes.{make_sub_verdict};
 ghost use Rattle.td_bind.specs.Answers.{verdict_of};
+ghost use Rattle.td_bind.specs.Literals.{cells_said, tags_said};
 
 use crate::columns::{mismatch_of, outside_of};
 use crate::found::find_stable;
-use crate::groups::{Fault, first_column};
+use crate::literals::{Fault, first_column, said_group};
 use crate::names::{is_full, is_taken};
-use crate::values::tag_of;
 use std::alloc::Global;
 use td_catalog::Catalog;
+use td_fields::{Said, cell_said};
 use td_layer::{Cell, Copied, Name, NoMem, Seq};
+use td_limits::TABLES;
 use td_model::{Cause, Column, Lit, Many, What};
 
-// Why the literals of a subtable's tags are refused, or that there is no place for it.
+// Why what is said of a subtable's tags is refused, or that there is no place for it.
 fn tags_cause(
     tags: &[Column],
-    lits: &[Lit],
-    moment: u64,
+    said: &[Said],
     catalog: &Catalog,
 ) -> Result<Option<Cause>, NoMem>
-    ensures { IfOk result (λ cause. cause ≡ tags_cause tags.now lits.now moment catalog.now.catalog) }
+    ensures { IfOk result (λ cause. cause ≡ tags_said tags.now said.now catalog.now.catalog) }
 {
-    if lits.len() != tags.len() {
-        return Ok(Some(Cause::Arity));
-    }
-    let mismatch = mismatch_of(first_column(Fault::Mismatch, &[], tags, lits, moment))?;
+    let mismatch = mismatch_of(first_column(Fault::Mismatch, &[], tags, said))?;
     if mismatch.is_some() {
         return Ok(mismatch);
     }
-    let outside = outside_of(first_column(Fault::Outside, &[], tags, lits, moment))?;
+    let outside = outside_of(first_column(Fault::Outside, &[], tags, said))?;
     if outside.is_some() {
         return Ok(outside);
     }
     if is_full(catalog) {
         return Ok(Some(Cause::TooMany {
             what: Many::Tables,
-            limit: 1_048_576,
+            limit: TABLES as u64,
         }));
     }
     Ok(None)
 }
 
-// The cells of a subtable's tags.
-fn tag_cells(alloc: Global, tags: &[Column], lits: &[Lit], moment: u64) -> Result<Seq<Cell>, NoMem>
-    ensures { IfOk result (λ cells. cells ≡ tag_cells moment tags.now lits.now) }
+// The cells of a subtable's tags, from what their literals say.
+fn tag_cells(
+    alloc: Global,
+    tags: &[Column],
+    said: &[Said],
+    lits: &[Lit],
+) -> Result<Seq<Cell>, NoMem>
+    ensures { IfOk result (λ cells. cells ≡ cells_said tags.now said.now lits.now) }
 {
     let mut cells = Seq::new(alloc);
     for (i, tag) in tags.iter().enumerate() {
-        let Some(lit) = lits.get(i) else {
+        let (Some(said), Some(lit)) = (said.get(i), lits.get(i)) else {
             return Ok(cells);
         };
-        let cell = tag_of(tag.kind, moment, lit)?;
-        if cells.push(cell).is_err() {
-            return Err(NoMem);
-        }
+        let cell = cell_said(tag.kind, *said, lit)?;
+        cells.add(cell)?;
     }
     Ok(cells)
 }
 
-/// What CREATE TABLE of a subtable meets in a catalog, at a moment in milliseconds since 1970.
-pub fn bind_make_sub(
+// What CREATE TABLE of a subtable meets in a catalog, at a moment in milliseconds since 1970.
+pub(crate) fn bind_make_sub(
     alloc: Global,
     name: &Name,
     stable: &Name,
@@ -81,11 +82,15 @@ pub fn bind_make_sub(
         return Ok(Err(Cause::NameTaken));
     }
     let (columns, lits) = (schema.tags.as_slice(), tags.as_slice());
-    let cause = tags_cause(columns, lits, moment, catalog)?;
+    if lits.len() != columns.len() {
+        return Ok(Err(Cause::Arity));
+    }
+    let said = said_group(alloc, moment, columns, lits)?;
+    let cause = tags_cause(columns, said.as_slice(), catalog)?;
     if let Some(cause) = cause {
         return Ok(Err(cause));
     }
-    let tags = tag_cells(alloc, columns, lits, moment)?;
+    let tags = tag_cells(alloc, columns, said.as_slice(), lits)?;
     let name = name.copy()?;
     Ok(Ok((
         What::MakeSub {

@@ -1,39 +1,34 @@
 //! The tables that a query reads.
-ghost use Rattle.std.specs.Prelude.{◌≡◌, ◌==◌, ◌<◌, ◌-◌, ◌+◌, ◌++◌, false, [], ◌∷◌, filter, map, length, IfOk, IfSome, OnOk};
+ghost use Rattle.std.specs.Prelude.{◌≡◌, ◌==◌, ◌<◌, ◌-◌, ◌+◌, ◌++◌, false, [], ◌∷◌, filter, map, length, IfOk, IfSome, IfNone, OnOk};
 ghost use Rattle.std.specs.List.{range_with_len};
 ghost use Rattle.std.specs.Option.{option_map, option_map_or, option_copied};
 ghost use Rattle.td_catalog.specs.Kept.{IsNumbered};
 ghost use Rattle.td_model.specs.Tags.{matching};
-ghost use Rattle.td_verdict.specs.Plans.{subtables_of, holds_of_tags, all_hold_of_tags};
-ghost use Rattle.td_verdict.specs.Queries.{source_schema};
-ghost use Rattle.td_bind.specs.Tables.{named_in, IsThere, planned_of, numbers_of, is_planned, first_of_tag, AreThere, tags_at, name_at, no_cells};
+ghost use Rattle.td_verdict.specs.Plans.{subtables_of, holds_of_table, all_hold_of_table, planned};
+ghost use Rattle.td_verdict.specs.Queries.{source_of, source_schema};
+ghost use Rattle.td_bind.specs.Tables.{IsThere, numbers_of, is_planned, is_indexed, first_indexed, AreThere, tags_at, name_at, no_cells};
 
 use crate::found::{find_stable, find_table};
 use std::alloc::Global;
 use td_catalog::Catalog;
+use td_cells::{tag_matches, text_matches};
 use td_layer::{Cell, Copied, Name, NoMem, Seq};
-use td_model::Schema;
-use td_tagidx::{TagIndex, tag_matches};
-use td_verdict::Comparison;
-
-/// What the name of a source names, by its number.
-#[derive(Clone, Copy)]
-pub(crate) enum Named {
-    Table(u32),
-    Stable(u32),
-}
+use td_model::{Op, Schema};
+use td_tagidx::TagIndex;
+use td_verdict::{Comparison, Source};
 
 // What a name names, a table or else a supertable, and its schema.
-pub(crate) fn find_source<'a>(catalog: &'a Catalog, name: &Name) -> Option<(Named, &'a Schema)>
-    ensures named { option_map (λ p. p.0) result ≡ named_in name.now catalog.now.catalog }
+pub(crate) fn find_source<'a>(catalog: &'a Catalog, name: &Name) -> Option<(Source, &'a Schema)>
+    ensures source { IfSome result (λ p. p.0 ≡ source_of name.now catalog.now.catalog) }
     ensures there { IfSome result (λ p. IsThere p.0 catalog.now.catalog) }
     ensures schema { IfSome result (λ p. p.1.now ≡ source_schema name.now catalog.now.catalog) }
+    ensures other { IfNone result (source_of name.now catalog.now.catalog ≡ Source.Other) }
 {
     if let Some((table, schema)) = find_table(catalog, name) {
-        return Some((Named::Table(table), schema));
+        return Some((Source::Table(table), schema));
     }
     let (stable, schema) = find_stable(catalog, name)?;
-    Some((Named::Stable(stable), schema))
+    Some((Source::Stable(stable), schema))
 }
 
 // The place among the tags of the tag that a comparison is of. The tags stand behind TBNAME and the columns.
@@ -44,23 +39,31 @@ fn tag_place(columns: usize, comparison: &Comparison) -> usize
     comparison.place - 1 - columns
 }
 
-// Whether a comparison is true of a table's tags, where it is one of a tag.
-fn holds_of_tags(columns: usize, tags: &Seq<Cell>, comparison: &Comparison) -> bool
-    ensures { result ≡ holds_of_tags columns tags.now comparison.now }
+// Whether a comparison is true of a table's name and tags, where it is of one of these.
+fn holds_of_table(columns: usize, name: &Name, tags: &Seq<Cell>, comparison: &Comparison) -> bool
+    ensures { result ≡ holds_of_table columns name.now tags.now comparison.now }
 {
+    if comparison.place == 0 {
+        return text_matches(comparison.op, name, &comparison.operand);
+    }
     if comparison.place <= columns {
         return true;
     }
     let tag = tag_place(columns, comparison);
-    tag_matches(tags, tag, comparison.op, &comparison.operand)
+    tag_matches(tags.as_slice(), tag, comparison.op, &comparison.operand)
 }
 
-// Whether all comparisons of tags are true of a table's tags.
-fn all_hold_of_tags(columns: usize, comparisons: &[Comparison], tags: &Seq<Cell>) -> bool
-    ensures { result ≡ all_hold_of_tags columns comparisons.now tags.now }
+// Whether all comparisons of a table's name and tags are true of them.
+fn all_hold_of_table(
+    columns: usize,
+    comparisons: &[Comparison],
+    name: &Name,
+    tags: &Seq<Cell>,
+) -> bool
+    ensures { result ≡ all_hold_of_table columns comparisons.now name.now tags.now }
 {
     for comparison in comparisons {
-        if !holds_of_tags(columns, tags, comparison) {
+        if !holds_of_table(columns, name, tags, comparison) {
             return false;
         }
     }
@@ -77,7 +80,7 @@ fn is_parent(stable: u32, parent: Option<u32>) -> bool
     }
 }
 
-// Whether the table of a number is a subtable of a supertable, and its tags pass all comparisons.
+// Whether the table of a number is a subtable of a supertable, and all comparisons of its name and tags are true.
 fn is_planned(
     stable: u32,
     columns: usize,
@@ -89,17 +92,12 @@ fn is_planned(
     ensures { result ≡ is_planned stable columns comparisons.now catalog.now.catalog table }
 {
     is_parent(stable, catalog.parent_of(table))
-        && all_hold_of_tags(columns, comparisons, catalog.tags_of(table))
-}
-
-// Adds a table at the end of others.
-fn add(tables: &mut Seq<u32>, table: u32) -> Result<(), NoMem>
-    ensures { OnOk result (tables.new ≡ tables.old ++ table ∷ []) }
-{
-    match tables.push(table) {
-        Ok(()) => Ok(()),
-        Err(_) => Err(NoMem),
-    }
+        && all_hold_of_table(
+            columns,
+            comparisons,
+            catalog.name_of(table),
+            catalog.tags_of(table),
+        )
 }
 
 // Of some tables those subtables of a supertable whose tags pass all comparisons.
@@ -117,7 +115,7 @@ fn planned_among(
     let mut planned = Seq::new(alloc);
     for table in tables {
         if is_planned(stable, columns, comparisons, catalog, *table) {
-            add(&mut planned, *table)?;
+            planned.add(*table)?;
         }
     }
     Ok(planned)
@@ -138,39 +136,30 @@ fn planned_among_all(
     for i in 0..catalog.tables() {
         let table = i + 1;
         if is_planned(stable, columns, comparisons, catalog, table) {
-            add(&mut planned, table)?;
+            planned.add(table)?;
         }
     }
     Ok(planned)
 }
 
-// The table of a number, where its tags pass all comparisons.
-fn planned_table(
-    alloc: Global,
-    table: u32,
-    columns: usize,
-    comparisons: &[Comparison],
-    catalog: &Catalog,
-) -> Result<Seq<u32>, NoMem>
-    requires { IsNumbered table (length catalog.now.catalog.tables) }
-    ensures { IfOk result (λ planned. planned ≡ numbers_of (planned_of (Named.Table table) columns comparisons.now catalog.now.catalog)) }
+// Whether the index finds the tags that pass a comparison without a look at all others.
+fn is_indexed(op: Op) -> bool
+    ensures { result ≡ is_indexed op }
 {
-    let mut planned = Seq::new(alloc);
-    if !all_hold_of_tags(columns, comparisons, catalog.tags_of(table)) {
-        return Ok(planned);
+    match op {
+        Op::Lt | Op::Le | Op::Gt | Op::Ge | Op::Eq => true,
+        Op::Ne | Op::IsNull | Op::NotNull => false,
     }
-    add(&mut planned, table)?;
-    Ok(planned)
 }
 
-// The first comparison of a tag.
-fn first_of_tag(columns: usize, comparisons: &[Comparison]) -> Option<&Comparison>
-    ensures first { option_copied result ≡ first_of_tag columns comparisons.now }
+// The first comparison of a tag for which the index serves.
+fn first_indexed(columns: usize, comparisons: &[Comparison]) -> Option<&Comparison>
+    ensures first { option_copied result ≡ first_indexed columns comparisons.now }
     ensures tag { IfSome result (λ first. columns < first.now.place) }
 {
     comparisons
         .iter()
-        .find(|comparison| columns < comparison.place)
+        .find(|comparison| columns < comparison.place && is_indexed(comparison.op))
 }
 
 // The numbers of all subtables of which a comparison of a tag is true.
@@ -183,8 +172,8 @@ fn found_by(tags: &TagIndex, columns: usize, comparison: &Comparison) -> Result<
     Ok(found)
 }
 
-// The subtables of a supertable whose tags pass all comparisons. Where one is of a tag, the index gives those that may be
-// among them.
+// The subtables of a supertable of which all comparisons are true. The index gives those that may be among them, where it serves
+// for one of the comparisons, whichever place that has in the text.
 fn planned_subtables(
     alloc: Global,
     stable: u32,
@@ -194,9 +183,9 @@ fn planned_subtables(
     tags: &TagIndex,
 ) -> Result<Seq<u32>, NoMem>
     requires { tags.now.subtables ≡ subtables_of catalog.now.catalog }
-    ensures { IfOk result (λ planned. planned ≡ numbers_of (planned_of (Named.Stable stable) columns comparisons.now catalog.now.catalog)) }
+    ensures { IfOk result (λ tables. tables ≡ numbers_of (planned (Source.Stable stable) columns comparisons.now catalog.now.catalog)) }
 {
-    let Some(first) = first_of_tag(columns, comparisons) else {
+    let Some(first) = first_indexed(columns, comparisons) else {
         let planned = planned_among_all(alloc, stable, columns, comparisons, catalog)?;
         return Ok(planned);
     };
@@ -206,29 +195,38 @@ fn planned_subtables(
     Ok(planned)
 }
 
-// The numbers of the tables that a query reads: those of what its source's name names whose tags pass all comparisons. The
-// tags stand behind so many columns.
-pub(crate) fn planned_of(
+// One table.
+fn one(alloc: Global, table: u32) -> Result<Seq<u32>, NoMem>
+    ensures { IfOk result (λ tables. tables ≡ table ∷ []) }
+{
+    let mut tables = Seq::new(alloc);
+    tables.add(table)?;
+    Ok(tables)
+}
+
+// The numbers of the tables that a query reads, of a source whose tables have so many columns.
+pub(crate) fn planned(
     alloc: Global,
-    named: Named,
+    source: Source,
     columns: usize,
     comparisons: &[Comparison],
     catalog: &Catalog,
     tags: &TagIndex,
 ) -> Result<Seq<u32>, NoMem>
     requires subtables { tags.now.subtables ≡ subtables_of catalog.now.catalog }
-    requires there { IsThere named catalog.now.catalog }
-    ensures { IfOk result (λ planned. planned ≡ numbers_of (planned_of named columns comparisons.now catalog.now.catalog)) }
+    requires there { IsThere source catalog.now.catalog }
+    ensures { IfOk result (λ tables. tables ≡ numbers_of (planned source columns comparisons.now catalog.now.catalog)) }
 {
-    match named {
-        Named::Table(table) => {
-            let planned = planned_table(alloc, table, columns, comparisons, catalog)?;
-            Ok(planned)
+    match source {
+        Source::Table(table) => {
+            let tables = one(alloc, table)?;
+            Ok(tables)
         }
-        Named::Stable(stable) => {
-            let planned = planned_subtables(alloc, stable, columns, comparisons, catalog, tags)?;
-            Ok(planned)
+        Source::Stable(stable) => {
+            let tables = planned_subtables(alloc, stable, columns, comparisons, catalog, tags)?;
+            Ok(tables)
         }
+        Source::Other => Ok(Seq::new(alloc)),
     }
 }
 
@@ -244,9 +242,7 @@ pub(crate) fn tags_of(
     let mut all = Seq::new(alloc);
     for table in tables {
         let tags = catalog.tags_of(*table).copy()?;
-        if all.push(tags).is_err() {
-            return Err(NoMem);
-        }
+        all.add(tags)?;
     }
     Ok(all)
 }
@@ -259,9 +255,7 @@ pub(crate) fn names_of(alloc: Global, catalog: &Catalog, tables: &[u32]) -> Resu
     let mut all = Seq::new(alloc);
     for table in tables {
         let name = catalog.name_of(*table).copy()?;
-        if all.push(name).is_err() {
-            return Err(NoMem);
-        }
+        all.add(name)?;
     }
     Ok(all)
 }
@@ -272,9 +266,7 @@ pub(crate) fn no_parts(alloc: Global, tables: &[u32]) -> Result<Seq<Seq<Cell>>, 
 {
     let mut parts = Seq::new(alloc);
     for _table in tables {
-        if parts.push(Seq::new(alloc)).is_err() {
-            return Err(NoMem);
-        }
+        parts.add(Seq::new(alloc))?;
     }
     Ok(parts)
 }

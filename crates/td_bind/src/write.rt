@@ -1,7 +1,9 @@
 //! Any write.
 ghost use Rattle.std.specs.Prelude.{◌≡◌, ◌≤◌, IfOk, IsTrue};
 ghost use Rattle.td_catalog.specs.Kept.{CanFollow};
-ghost use Rattle.td_verdict.specs.Writes.{is_write, write_verdict};
+ghost use Rattle.td_model.specs.Built.{is_write, is_built};
+ghost use Rattle.td_verdict.specs.Sound.{IsFromEdge};
+ghost use Rattle.td_verdict.specs.Writes.{write_verdict};
 ghost use Rattle.td_bind.specs.Answers.{verdict_of};
 
 use crate::insert::bind_insert;
@@ -11,28 +13,12 @@ use crate::subtables::bind_make_sub;
 use std::alloc::Global;
 use td_catalog::Catalog;
 use td_layer::NoMem;
+use td_limits::LAST_TIMESTAMP;
 use td_model::{Cause, Stmt, What};
-
-/// Whether a statement is a write: CREATE, INSERT, DELETE, DROP or TRIM.
-pub fn is_write(stmt: &Stmt) -> bool
-    ensures { result ≡ is_write stmt.now }
-{
-    matches!(
-        stmt,
-        Stmt::MakeStable { .. }
-            | Stmt::MakeTable { .. }
-            | Stmt::MakeSub { .. }
-            | Stmt::Insert { .. }
-            | Stmt::Delete { .. }
-            | Stmt::MakeStream(_)
-            | Stmt::DropStream { .. }
-            | Stmt::Trim
-    )
-}
 
 /// What a write meets in a catalog, at a retention edge and a moment in milliseconds since 1970: accepted as an entry with
 /// its count of rows, or refused with the first cause that applies. The catalog can take what is accepted. `Err(NoMem)` is
-/// want of memory. CREATE STREAM is refused as not built yet.
+/// want of memory.
 pub fn bind_write(
     alloc: Global,
     stmt: &Stmt,
@@ -41,10 +27,13 @@ pub fn bind_write(
     moment: u64,
 ) -> Result<Result<(What, u32), Cause>, NoMem>
     requires write { IsTrue (is_write stmt.now) }
-    requires moment { moment ≤ 253402300799999 }
+    requires built { IsTrue (is_built stmt.now) }
+    requires moment { moment ≤ LAST_TIMESTAMP }
     ensures verdict { IfOk result (λ answer. verdict_of answer ≡ write_verdict stmt.now catalog.now.catalog edge moment) }
     ensures follows { IfOk result (λ answer. IfOk answer (λ accepted. CanFollow accepted.0 catalog.now.catalog)) }
+    ensures edge { IfOk result (λ answer. IfOk answer (λ accepted. IsFromEdge edge accepted.0)) }
 {
+    catalog.is_valid();
     let answer = answer_of(alloc, stmt, catalog, edge, moment)?;
     Ok(answer)
 }
@@ -58,7 +47,8 @@ fn answer_of(
     moment: u64,
 ) -> Result<Result<(What, u32), Cause>, NoMem>
     requires write { IsTrue (is_write stmt.now) }
-    requires moment { moment ≤ 253402300799999 }
+    requires built { IsTrue (is_built stmt.now) }
+    requires moment { moment ≤ LAST_TIMESTAMP }
     ensures { IfOk result (λ answer. verdict_of answer ≡ write_verdict stmt.now catalog.now.catalog edge moment) }
 {
     let answer = match stmt {
@@ -84,7 +74,7 @@ fn answer_of(
         } => bind_delete(table, column, lo, hi, catalog, moment)?,
         Stmt::Trim => bind_trim(edge, moment),
         Stmt::DropStream { name } => bind_drop_stream(name, catalog),
-        _ => Err(Cause::OptionNotBuilt),
+        _ => unreachable!(),
     };
     Ok(answer)
 }

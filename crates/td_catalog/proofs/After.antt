@@ -6,7 +6,7 @@ use Rattle.td_model.specs.declared.history.What.{What}
 use Rattle.td_model.specs.declared.history.What.TheVariants as what
 use Rattle.td_model.specs.declared.history.Entry.{Entry}
 use Rattle.td_model.specs.Catalog.{Catalog, with_what, table_at}
-use Rattle.td_model.specs.State.{State, step, effect, put_all, put_one, row_put, latest_raised, parent_of}
+use Rattle.td_model.specs.State.{State, newest, step, effect, put_all, put_one, row_put, latest_raised, parent_of}
 use Rattle.td_catalog.specs.Kept.{change_of, changed}
 
 latest-keeps : (p : Option ℕ) (key : Key) (s : State) → (latest_raised p key s).catalog ≡ s.catalog
@@ -17,17 +17,17 @@ puts-keep : (ps : List Put) (s : State) → (put_all ps s).catalog ≡ s.catalog
 puts-keep [] s = refl
 puts-keep (p ∷ ps) s = puts-keep ps (put_one p s) ∙ latest-keeps (parent_of (table_at p.key.table s.catalog)) p.key (row_put p s)
 
-effect-catalog : (w : What) (s : State) → (effect w s).catalog ≡ with_what w s.catalog
-effect-catalog (what.MakeStable name schema) s = refl
-effect-catalog (what.MakeTable name columns) s = refl
-effect-catalog (what.MakeSub name stable tags) s = refl
-effect-catalog (what.Put puts) s = puts-keep puts s
-effect-catalog (what.Cut table lo hi) s = refl
-effect-catalog (what.MakeStream def) s = refl
-effect-catalog (what.DropStream n) s = refl
-effect-catalog (what.Edge edge) s = refl
-effect-catalog (what.Step stream upto moment) s = refl
-effect-catalog what.Halt s = refl
+effect-catalog : (past : List State) (w : What) (s : State) → (effect past w s).catalog ≡ with_what w s.catalog
+effect-catalog past (what.MakeStable name schema) s = refl
+effect-catalog past (what.MakeTable name columns) s = refl
+effect-catalog past (what.MakeSub name stable tags) s = refl
+effect-catalog past (what.Put puts) s = puts-keep puts s
+effect-catalog past (what.Cut table lo hi) s = refl
+effect-catalog past (what.MakeStream def) s = refl
+effect-catalog past (what.DropStream n) s = refl
+effect-catalog past (what.Edge edge) s = refl
+effect-catalog past (what.Step stream upto moment) s = refl
+effect-catalog past what.Halt s = refl
 
 pub changed-change_of : (w : What) (c : Catalog) → changed (change_of w) c ≡ with_what w c
 changed-change_of (what.MakeStable name schema) c = refl
@@ -42,6 +42,7 @@ changed-change_of (what.Step stream upto moment) c = refl
 changed-change_of what.Halt c = refl
 
 -- the catalog after a change is that of the state after its entry
-pub changed-step : (s : State) (e : Entry) (c d : Catalog) (o : Option What) → d ≡ changed o c → s.catalog ≡ c → o ≡ change_of e.what → d ≡ (step s e).catalog
-changed-step s e c d o made same of =
-    made ∙ ap (λ o. changed o c) of ∙ changed-change_of e.what c ∙ ap (with_what e.what) (sym same) ∙ sym (effect-catalog e.what (record s { version = s.version + 1; moment = e.moment }))
+pub changed-step : (past : List State) (e : Entry) (c d : Catalog) (o : Option What) → d ≡ changed o c → (newest past).catalog ≡ c → o ≡ change_of e.what → d ≡ (step past e).catalog
+changed-step past e c d o made same of =
+    made ∙ ap (λ o. changed o c) of ∙ changed-change_of e.what c ∙ ap (with_what e.what) (sym same)
+    ∙ sym (effect-catalog past e.what (record (newest past) { version = (newest past).version + 1; moment = e.moment }))

@@ -3,3 +3,5 @@ pub mod Found
 pub mod Growth
 pub mod Fewer
 pub mod After
+pub mod Apart
+pub mod Valid

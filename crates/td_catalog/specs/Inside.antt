@@ -4,6 +4,7 @@ use Rattle.indexmap.specs.IndexMap.{spare, values}
 use Rattle.td_model.specs.declared.catalog.StreamEntry.{StreamEntry}
 use Rattle.td_model.specs.Catalog.{Catalog}
 use Rattle.td_catalog.specs.declared.catalog.Catalog.TheInside.{Inside}
+use Rattle.td_verdict.specs.Valid.{IsValid}
 use Rattle.td_catalog.specs.Kept.{Kept}
 use Rattle.td_catalog.specs.Tables.{table_of, HasParent}
 
@@ -20,7 +21,7 @@ AreTargets read [] (t ∷ ts) = ⊥
 AreTargets read (e ∷ es) [] = ⊥
 AreTargets read (e ∷ es) (t ∷ ts) = (read t.0 ≡ e.1.def.target) × (t.1 ≡ e.1.number) × AreTargets read es ts
 
--- each is kept under its name, and each number fits in 32 bits
+-- each is kept under its name, each number fits in 32 bits, and the catalog is valid
 pub record IsInOrder (a : Inside) : Type 0 where
   pub stables : All (λ e. e.0.items ≡ e.1.name) a.stables.entries
   pub tables : All (λ e. e.0.items ≡ e.1.name) a.tables.entries
@@ -31,3 +32,4 @@ pub record IsInOrder (a : Inside) : Type 0 where
   pub table_count : length a.tables.entries < 2 ^ 32
   pub stream_count : length a.streams.entries < a.next_stream
   pub next_fits : a.next_stream < 2 ^ 32
+  pub valid : IsValid (catalog_of a)

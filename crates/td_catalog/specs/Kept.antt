@@ -1,8 +1,11 @@
 -- A catalog beside the room that it has, which entries may come next, and what a change makes of it.
-use Rattle.std.specs.Prelude.{◌≡◌, ◌<◌, ◌≤◌, ◌+◌, ◌^◌, ℕ, List, length, Option, Some, None, ⊤}
+use Rattle.std.specs.Prelude.{◌≡◌, ◌<◌, ◌≤◌, ◌+◌, ℕ, All, List, [], length, Option, Some, None, ⊤}
+use Rattle.td_limits.specs.declared.limits.TheConstants.{LAST_STREAM_NUMBER, STREAMS, TABLES}
 use Rattle.td_model.specs.declared.history.What.{What}
 use Rattle.td_model.specs.declared.history.What.TheVariants as what
-use Rattle.td_model.specs.Catalog.{Catalog, stable_named, table_named, stream_named, target_named, with_what}
+use Rattle.td_model.specs.Catalog.{Catalog, stable_named, table_named, stream_named, target_named, stable_at, schema_or_none, with_what}
+use Rattle.td_verdict.specs.Sound.{IsCut, IsPut}
+use Rattle.td_verdict.specs.Valid.{AreTags, IsSchema}
 
 -- a catalog, and how many more supertables, tables and streams it takes without further memory
 pub record Kept : Type 0 where
@@ -21,15 +24,16 @@ pub record IsFree (name : List ℕ) (c : Catalog) : Type 0 where
 abbrev pub IsNumbered : ℕ → ℕ → Type 0
 IsNumbered n count = (1 ≤ n) × (n ≤ count)
 
--- What an entry is that may come after a catalog: a new name is free, a supertable that is named is there, and the
--- numbers that it gives lie below 2^32. An entry that adds nothing to the catalog may come after each.
+-- What an entry is that may come after a catalog: a new name is free, a schema is well formed, a supertable that is named is
+-- there and has a tag for each cell, puts and cuts are of tables that are there, and there is place for what is added.
 abbrev pub CanFollow : What → Catalog → Type 0
-CanFollow (what.MakeStable name schema) c = IsFree name c × (length c.stables + 1 < 2 ^ 32)
-CanFollow (what.MakeTable name columns) c = IsFree name c × (length c.tables + 1 < 2 ^ 32)
-CanFollow (what.MakeSub name stable tags) c = IsFree name c × (length c.tables + 1 < 2 ^ 32) × IsNumbered stable (length c.stables)
-CanFollow (what.MakeStream def) c = (stream_named def.name c ≡ None) × IsFree def.target c × (c.next_stream + 1 < 2 ^ 32)
-CanFollow (what.Put puts) c = ⊤
-CanFollow (what.Cut table lo hi) c = ⊤
+CanFollow (what.MakeStable name schema) c = IsFree name c × IsSchema schema.columns schema.tags × (length c.tables + length c.stables < TABLES)
+CanFollow (what.MakeTable name columns) c = IsFree name c × IsSchema columns [] × (length c.tables + length c.stables < TABLES)
+CanFollow (what.MakeSub name stable tags) c =
+    IsFree name c × IsNumbered stable (length c.stables) × AreTags (schema_or_none (stable_at stable c)).tags tags × (length c.tables + length c.stables < TABLES)
+CanFollow (what.MakeStream def) c = (stream_named def.name c ≡ None) × IsFree def.target c × (length c.streams < STREAMS) × (c.next_stream ≤ LAST_STREAM_NUMBER)
+CanFollow (what.Put puts) c = All (IsPut c) puts
+CanFollow (what.Cut table lo hi) c = IsCut c table lo hi
 CanFollow (what.DropStream n) c = ⊤
 CanFollow (what.Edge edge) c = ⊤
 CanFollow (what.Step stream upto moment) c = ⊤

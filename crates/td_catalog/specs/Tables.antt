@@ -7,7 +7,7 @@ use Rattle.td_catalog.specs.Kept.{IsNumbered}
 abbrev pub table_of : Table → TableDef
 table_of t = record { name = t.name; parent = t.parent; columns = t.schema.columns; tags = t.tags }
 
--- a plain table's schema has no tags, and a subtable's supertable is one of so many
+-- a plain table has no tags, and a subtable's supertable is one of so many
 abbrev pub HasParent : ℕ → Table → Option ℕ → Type 0
-HasParent stables t None = t.schema.tags ≡ []
+HasParent stables t None = (t.schema.tags ≡ []) × (t.tags ≡ [])
 HasParent stables t (Some stable) = IsNumbered stable stables

@@ -2,6 +2,7 @@
 ghost use Rattle.std.specs.Prelude.{◌≡◌, ◌<◌, ◌≤◌, ◌+◌, ◌-◌, ◌^◌, length, slice_get, Some, IfSome, is_some};
 ghost use Rattle.std.specs.Option.{option_map, option_copied, ForSome};
 ghost use Rattle.td_model.specs.Catalog.{empty_catalog, stable_named, table_named, stream_named, target_named, stable_at, table_at, schema_of};
+ghost use Rattle.td_verdict.specs.Valid.{IsValid};
 ghost use Rattle.td_catalog.specs.Kept.{IsNumbered};
 ghost use Rattle.td_catalog.specs.Tables.{table_of, HasParent};
 
@@ -80,6 +81,14 @@ impl Catalog {
             targets: IndexMap::new(alloc),
             next_stream: 1,
         }
+    }
+
+    /// The catalog is valid: names are apart, each schema is well formed, and each subtable has a cell for each tag of its
+    /// supertable. It does nothing.
+    pub fn is_valid(&self)
+        ensures { IsValid self.now.catalog }
+    {
+        let _ = &self.alloc;
     }
 
     /// The number of the table of a name.

@@ -1,10 +1,11 @@
 //! The two steps of a change: what takes memory, and what then takes none.
-ghost use Rattle.std.specs.Prelude.{◌≡◌, ◌<◌, ◌≤◌, ◌+◌, ◌^◌, length, [], ◌∷◌, ◌++◌, ℕ, None, OnOk, IfOk, filter, not, ◌==◌};
+ghost use Rattle.std.specs.Prelude.{◌≡◌, ◌<◌, ◌≤◌, ◌+◌, ◌^◌, length, [], ◌∷◌, ◌++◌, ℕ, List, None, OnOk, IfOk, filter, not, ◌==◌};
 ghost use Rattle.td_model.specs.declared.history.What.{What};
 ghost use Rattle.td_model.specs.declared.history.Entry.{Entry};
-ghost use Rattle.td_model.specs.State.{State, step};
+ghost use Rattle.td_model.specs.State.{State, newest, step};
 ghost use Rattle.td_model.specs.declared.history.What.TheVariants as what;
 ghost use Rattle.td_model.specs.Catalog.{stable_named, table_named, stream_named, target_named, with_what};
+ghost use Rattle.td_verdict.specs.Valid.{IsValid};
 ghost use Rattle.td_catalog.specs.Kept.{CanFollow, HasRoom, IsReadyFor, change_of, changed};
 ghost use Rattle.td_catalog.specs.Tables.{table_of, HasParent};
 
@@ -33,8 +34,11 @@ impl Catalog {
         requires { IsReadyFor change self.old }
         ensures changed { self.new.catalog ≡ changed change self.old.catalog }
         ensures entry { (what : What) → change ≡ change_of what → self.new.catalog ≡ with_what what self.old.catalog }
-        ensures after { (s : State) (e : Entry) → s.catalog ≡ self.old.catalog → change ≡ change_of e.what → self.new.catalog ≡ (step s e).catalog }
+        ensures after { (past : List State) (e : Entry)
+            → (newest past).catalog ≡ self.old.catalog → change ≡ change_of e.what
+            → self.new.catalog ≡ (step past e).catalog }
     {
+        let _ = &self.alloc;
         let Change { part } = change;
         match part {
             Part::Nothing => (),
@@ -110,6 +114,7 @@ impl Catalog {
         requires key { key.items ≡ def.name }
         requires free { stable_named def.name self.old.catalog ≡ None }
         requires count { length self.old.catalog.stables + 1 < 2 ^ 32 }
+        requires valid { IsValid (record self.old.catalog { stables = self.old.catalog.stables ++ def ∷ [] }) }
         requires room { 0 < self.old.stable_room }
         ensures { self.new.catalog ≡ record self.old.catalog { stables = self.old.catalog.stables ++ def ∷ [] } }
     {
@@ -122,6 +127,7 @@ impl Catalog {
         requires free { table_named table.name self.old.catalog ≡ None }
         requires parent { HasParent (length self.old.catalog.stables) table table.parent }
         requires count { length self.old.catalog.tables + 1 < 2 ^ 32 }
+        requires valid { IsValid (record self.old.catalog { tables = self.old.catalog.tables ++ table_of table ∷ [] }) }
         requires room { 0 < self.old.table_room }
         ensures { self.new.catalog ≡ record self.old.catalog { tables = self.old.catalog.tables ++ table_of table ∷ [] } }
     {
@@ -135,6 +141,7 @@ impl Catalog {
         requires free { stream_named def.name self.old.catalog ≡ None }
         requires target_free { target_named def.target self.old.catalog ≡ None }
         requires count { self.old.catalog.next_stream + 1 < 2 ^ 32 }
+        requires valid { IsValid (with_what (what.MakeStream def) self.old.catalog) }
         requires room { 0 < self.old.stream_room }
         ensures { self.new.catalog ≡ with_what (what.MakeStream def) self.old.catalog }
     {

@@ -2,4 +2,3 @@ pub mod Undone
 pub mod InOrder
 pub mod Kept
 pub mod Ranges
-pub mod Walk

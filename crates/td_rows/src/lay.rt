@@ -26,9 +26,7 @@ fn over(alloc: Global, cells: &[Option<Value>], values: &[Value]) -> Result<Seq<
 {
     let mut laid = Seq::new(alloc);
     for (i, cell) in cells.iter().enumerate() {
-        if laid.push(laid_value(*cell, values.get(i))).is_err() {
-            return Err(NoMem);
-        }
+        laid.add(laid_value(*cell, values.get(i)))?;
     }
     Ok(laid)
 }

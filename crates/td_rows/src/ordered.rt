@@ -1,12 +1,16 @@
-//! Rows that are found by search.
-ghost use Rattle.std.specs.Prelude.{◌≡◌, []};
+//! Rows in an ordered map.
+ghost use Rattle.std.specs.Prelude.{◌≡◌, [], IfOk, IfSome, IfNone, OnOk, OnErr, filter, is_some, true};
+ghost use Rattle.td_model.specs.State.{is_cut, row_at};
+ghost use Rattle.td_rows.specs.Puts.{row_after, rows_after};
+ghost use Rattle.td_rows.specs.Before.{row_before, rows_before};
 
-use crate::puts::{Undo, put_all};
-use crate::range::lies_in;
+use crate::lay::lay;
 use crate::rows::RowMap;
 use std::alloc::Global;
 use std::collections::BTreeMap;
-use td_layer::{Copied, Key, NoMem, Row, Seq};
+use std::collections::btree_map::Range;
+use std::ops::Bound;
+use td_layer::{Key, NoMem, Row};
 use td_model::Put;
 
 /// Rows in an ordered map: a row is found by search, and so is the first row of a range.
@@ -26,21 +30,11 @@ impl OrderedRows {
             map: BTreeMap::new(alloc),
         }
     }
-}
 
-impl Undo for OrderedRows {
-    ghost held = { λ m. m.map.entries };
-
-    fn find(&self, key: &Key) -> Option<&Row> {
-        self.map.get(key)
-    }
-
-    fn put(&mut self, key: Key, row: Row) -> Result<Option<Row>, NoMem> {
-        let before = self.map.insert(key, row)?;
-        Ok(before)
-    }
-
-    fn undo(&mut self, key: &Key, before: Option<Row>) {
+    // Gives a key the row back that it had, or removes it where it had none. It takes no memory.
+    fn undo(&mut self, key: &Key, before: Option<Row>)
+        ensures { self.new.map.entries ≡ row_before key.now before self.old.map.entries }
+    {
         match before {
             None => {
                 self.map.remove(key);
@@ -52,42 +46,79 @@ impl Undo for OrderedRows {
             }
         }
     }
+
+    // Undoes the puts of a log, the last first.
+    fn undo_all(&mut self, mut log: Vec<(Key, Option<Row>)>)
+        ensures { self.new.map.entries ≡ rows_before log.items self.old.map.entries }
+    {
+        while let Some((key, before)) = log.pop() {
+            self.undo(&key, before);
+        }
+    }
+
+    // Lays a put over the row of its key, and gives the row that the key had. Where there is no memory the rows stay.
+    fn put_one(&mut self, moment: u64, put: &Put) -> Result<Option<Row>, NoMem>
+        ensures ok { OnOk result (self.new.map.entries ≡ row_after moment put.now self.old.map.entries) }
+        ensures before { IfOk result (λ before. row_before put.now.key before self.new.map.entries ≡ self.old.map.entries) }
+        ensures err { OnErr result (self.new.map.entries ≡ self.old.map.entries) }
+    {
+        let row = lay(
+            self.alloc,
+            put.cells.as_slice(),
+            moment,
+            self.map.get(&put.key),
+        )?;
+        let before = self.map.insert(put.key, row)?;
+        Ok(before)
+    }
+
+    // The first key of a table's range, if there is one.
+    fn first_in(&self, table: u32, lo: u64, hi: u64) -> Option<Key>
+        ensures key { IfSome result (λ key. is_cut table lo hi key ≡ true) }
+        ensures there { IfSome result (λ key. is_some (row_at key self.now.map.entries) ≡ true) }
+        ensures none { IfNone result (filter (λ e. is_cut table lo hi e.0) self.now.map.entries ≡ []) }
+    {
+        match self.range(table, lo, hi).next() {
+            Some((key, _)) => Some(*key),
+            None => None,
+        }
+    }
 }
 
 impl RowMap for OrderedRows {
     ghost rows = { λ m. m.map.entries };
 
-    fn row(&self, key: &Key) -> Option<&Row> {
-        self.find(key)
-    }
-
     fn put_all(&mut self, moment: u64, puts: &[Put]) -> Result<(), NoMem> {
-        put_all(self.alloc, self, moment, puts)?;
+        let mut log = Vec::new(self.alloc);
+        log.reserve(puts.len())?;
+        for put in puts {
+            match self.put_one(moment, put) {
+                Ok(before) => log.push((put.key, before)).unwrap(),
+                Err(failed) => {
+                    self.undo_all(log);
+                    return Err(failed);
+                }
+            }
+        }
         Ok(())
     }
 
     fn cut(&mut self, table: u32, lo: u64, hi: u64) {
-        self.map.retain(|key, _| !lies_in(table, lo, Some(hi), key));
+        while let Some(key) = self.first_in(table, lo, hi) {
+            self.map.remove(&key);
+        }
     }
 
     fn keep_from(&mut self, ts: u64) {
         self.map.retain(|key, _| ts <= key.ts);
     }
 
-    fn rows_of(
-        &self,
-        alloc: Global,
-        table: u32,
-        lo: u64,
-        hi: Option<u64>,
-    ) -> Result<Seq<(u64, Row)>, NoMem> {
-        let mut all = Vec::new(alloc);
-        for (key, row) in self.map.range(Key { table, ts: lo }..) {
-            if !lies_in(table, lo, hi, key) {
-                break;
-            }
-            all.push((key.ts, row.copy()?))?;
+    fn range(&self, table: u32, lo: u64, hi: u64) -> Range<'_, Key, Row> {
+        let from = Key { table, ts: lo };
+        if hi < lo {
+            return self.map.range(from..from);
         }
-        Ok(Seq::from_vec(alloc, all))
+        let to = Key { table, ts: hi };
+        self.map.range((Bound::Included(from), Bound::Included(to)))
     }
 }

@@ -1,21 +1,16 @@
 //! What keeps rows by key.
-ghost use Rattle.std.specs.Prelude.{◌≡◌, filter, not, nat_le, IfOk, OnOk, OnErr};
-ghost use Rattle.std.specs.Option.{option_copied};
-ghost use Rattle.td_model.specs.State.{Rows, row_at, is_cut};
-ghost use Rattle.td_rows.specs.Puts.{rows_after, range_of};
+ghost use Rattle.std.specs.Prelude.{◌≡◌, filter, not, nat_le, OnOk, OnErr};
+ghost use Rattle.td_model.specs.State.{Rows, is_cut};
+ghost use Rattle.td_rows.specs.Puts.{rows_after};
 
-use std::alloc::Global;
-use td_layer::{Key, NoMem, Row, Seq};
+use std::collections::btree_map::Range;
+use td_layer::{Key, NoMem, Row};
 use td_model::Put;
 
 /// Rows by key.
 pub trait RowMap: Drop {
     /// The rows, in the order of their keys.
     ghost rows: { Self → Rows };
-
-    /// The row of a key, if there is one.
-    fn row(&self, key: &Key) -> Option<&Row>
-        ensures { option_copied result ≡ row_at key.now (rows self.now) };
 
     /// Lays puts over the rows of their keys, one after another, at a moment in milliseconds, at which new rows are born: all
     /// of them, or none where there is no memory.
@@ -31,13 +26,7 @@ pub trait RowMap: Drop {
     fn keep_from(&mut self, ts: u64)
         ensures { rows self.new ≡ filter (λ e. nat_le ts e.0.ts) (rows self.old) };
 
-    /// Copies of the rows of a table from one timestamp on, to another where there is one, both included, by timestamp.
-    fn rows_of(
-        &self,
-        alloc: Global,
-        table: u32,
-        lo: u64,
-        hi: Option<u64>,
-    ) -> Result<Seq<(u64, Row)>, NoMem>
-        ensures { IfOk result (λ all. all ≡ range_of table lo hi (rows self.now)) };
+    /// The rows of a table from one timestamp to another, both included, in the order of their timestamps.
+    fn range(&self, table: u32, lo: u64, hi: u64) -> Range<'_, Key, Row>
+        ensures { result ≡ filter (λ e. is_cut table lo hi e.0) (rows self.now) };
 }

@@ -20,7 +20,7 @@ use Rattle.td_model.specs.declared.history.Verdict.{Verdict}
 use Rattle.td_model.specs.declared.history.Verdict.TheVariants.{Accept, Refuse}
 use Rattle.td_model.specs.declared.report.Cause.TheVariants.{UnknownStable, NotAStable, NotATable, NeedsTags, NameTaken, NeedsTime, UnknownColumn, Arity, TypeMismatch, OutOfRange, BeforeEdge, UnknownStream}
 use Rattle.td_model.specs.Catalog.{Catalog}
-use Rattle.td_lex.specs.Stamps.{timestamp_of, date_of, digits_at}
+use Rattle.td_times.specs.Stamps.{timestamp_of, date_of, digits_at}
 use Rattle.td_verdict.specs.Writes.{write_verdict}
 
 abbrev column : List ℕ → Kind → Column

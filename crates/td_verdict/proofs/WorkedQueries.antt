@@ -32,7 +32,7 @@ use Rattle.td_model.specs.declared.language.WindowDef.TheVariants as window
 use Rattle.td_model.specs.declared.language.Query.{Query}
 use Rattle.td_model.specs.declared.history.Verdict.{Verdict}
 use Rattle.td_model.specs.declared.history.Verdict.TheVariants.{Pass, Refuse}
-use Rattle.td_model.specs.declared.report.Cause.TheVariants.{OptionNotBuilt, UnknownTable, UnknownColumn, TypeMismatch, BadSelect, BadLimit}
+use Rattle.td_model.specs.declared.report.Cause.TheVariants.{UnknownTable, UnknownColumn, TypeMismatch, BadSelect, BadLimit}
 use Rattle.td_model.specs.Catalog.{Catalog}
 use Rattle.td_model.specs.State.{State, empty_state}
 use Rattle.td_verdict.specs.Queries.{query_verdict}
@@ -126,9 +126,6 @@ to_below = refl
 
 no_table : met (all_of (codes "x") []) ≡ Refuse UnknownTable
 no_table = refl
-
-an_aggregate : met (some_of (item.CountAll ∷ []) (codes "x") []) ≡ Refuse OptionNotBuilt
-an_aggregate = refl
 
 no_column : met (record (some_of (item.Col (codes "volts") ∷ []) (codes "meters") (where_ (codes "voltage") op.Eq lit.True ∷ [])) { skip = negsuc 0 }) ≡ Refuse UnknownColumn
 no_column = refl

@@ -15,6 +15,7 @@ use Rattle.td_model.specs.declared.language.Lit.{Lit}
 use Rattle.td_model.specs.declared.language.Cond.{Cond}
 use Rattle.td_model.specs.declared.language.PartBy.{PartBy}
 use Rattle.td_model.specs.declared.language.PartBy.TheVariants as part
+use Rattle.td_limits.specs.declared.limits.TheConstants.{NAME_BYTES}
 use Rattle.td_model.specs.Tags.{tag_matches}
 use Rattle.td_verdict.specs.declared.comparison.Comparison.{Comparison}
 use Rattle.td_verdict.specs.Names.{is_named, column_named}
@@ -52,7 +53,7 @@ place_in s name = option_map (λ i. i + 1) (position (is_named name) (fields s))
 
 -- TBNAME is compared as a text, under the name that a cause has for it
 abbrev pub tbname_column : Column
-tbname_column = record { name = codes "tbname"; kind = Text 192 }
+tbname_column = record { name = codes "tbname"; kind = Text NAME_BYTES }
 
 -- the column or tag that a condition is of, and its place
 abbrev pub part_column : Schema → PartBy → Option Column

@@ -7,3 +7,5 @@ pub mod Fields
 pub mod Queries
 pub mod Plans
 pub mod Answers
+pub mod Valid
+pub mod Sound

@@ -1,10 +1,9 @@
--- What a row query meets in a catalog: a SELECT without aggregate, window and PARTITION BY. Other queries aren't built yet, nor
--- is the reading of a stream's target.
+-- What a row query meets in a catalog: a SELECT without aggregate, window and PARTITION BY.
 use Rattle.std.specs.Prelude.{ℕ, ℤ, pos, int_le, Bool, true, false, not, ◌&&◌, ◌||◌, ◌==◌, if◌then◌else◌, List, [], ◌∷◌, length, Option, Some, None, is_none}
 use Rattle.std.specs.Ordering.{int_eq}
 use Rattle.std.specs.Str.{bytes_eq}
 use Rattle.std.specs.List.{list_any}
-use Rattle.std.specs.Option.{option_map_or}
+use Rattle.std.specs.Option.{option_map_or, option_or}
 use lib.Chars.{codes}
 use Rattle.td_model.specs.declared.catalog.Column.{Column}
 use Rattle.td_model.specs.declared.catalog.Schema.{Schema}
@@ -21,23 +20,16 @@ use Rattle.td_model.specs.declared.history.Verdict.{Verdict}
 use Rattle.td_model.specs.declared.history.Verdict.TheVariants.{Pass, Refuse}
 use Rattle.td_model.specs.declared.report.Cause.{Cause}
 use Rattle.td_model.specs.declared.report.Cause.TheVariants as cause
-use Rattle.td_model.specs.Catalog.{Catalog, stable_named, table_named}
+use Rattle.td_limits.specs.declared.limits.TheConstants.{LAST_COUNT}
+use Rattle.td_model.specs.Catalog.{Catalog, stable_named, table_named, no_schema}
+use Rattle.td_verdict.specs.declared.source.Source.{Source}
+use Rattle.td_verdict.specs.declared.source.Source.TheVariants.{Table, Stable, Other}
 use Rattle.td_verdict.specs.Causes.{when, first_cause}
 use Rattle.td_verdict.specs.Names.{is_taken, is_target, table_schema, stable_schema, column_named, is_first}
 use Rattle.td_verdict.specs.Values.{suits}
 use Rattle.td_verdict.specs.Fields.{fields, part_column}
-use Rattle.td_verdict.specs.Streams.{is_whole, is_plain}
+use Rattle.td_verdict.specs.Streams.{is_plain}
 use Rattle.td_verdict.specs.Writes.{first_given}
-
--- ---- which queries are built
-
-abbrev pub is_aggregate : ItemKind → Bool
-is_aggregate item.CountAll = true
-is_aggregate (item.Fun func name) = true
-is_aggregate _ = false
-
-abbrev pub is_row_query : Query → Bool
-is_row_query q = not (list_any (λ (i : Item). is_aggregate i.what) q.items) && is_whole q.window && (length q.parts == 0)
 
 -- `SELECT *` with an optional LIMIT, whose OFFSET is 0 or not given: the one form that reads a target
 abbrev pub reads_all : Query → Bool
@@ -45,18 +37,24 @@ reads_all q = q.star && (length q.conds == 0) && is_plain q.order && int_eq q.sk
 
 -- ---- the source
 
--- the schema of a table, or else of a supertable
-abbrev pub schema_or : Option ℕ → Option ℕ → Catalog → Schema
-schema_or (Some n) stable c = table_schema (Some n) c
-schema_or None stable c = stable_schema stable c
+-- what a name names: a table, or else a supertable
+abbrev pub source_by : Option ℕ → Option ℕ → Source
+source_by (Some table) stable = Table table
+source_by None (Some stable) = Stable stable
+source_by None None = Other
+
+abbrev pub source_of : List ℕ → Catalog → Source
+source_of name c = source_by (table_named name c) (stable_named name c)
+
+abbrev pub schema_from : Source → Catalog → Schema
+schema_from (Table n) c = table_schema (Some n) c
+schema_from (Stable n) c = stable_schema (Some n) c
+schema_from Other c = no_schema
 
 abbrev pub source_schema : List ℕ → Catalog → Schema
-source_schema source c = schema_or (table_named source c) (stable_named source c) c
+source_schema name c = schema_from (source_of name c) c
 
 -- ---- causes
-
-abbrev pub target_cause : Query → Cause
-target_cause q = if reads_all q then cause.OptionNotBuilt else cause.TargetOfStream
 
 -- a name that is no column or tag
 abbrev pub is_unknown : Schema → List ℕ → Bool
@@ -105,9 +103,9 @@ is_order_other columns (order.Desc name) = not (is_first columns name)
 abbrev pub is_bad_selection : Schema → Query → Bool
 is_bad_selection s q = list_any (λ (i : Item). needs_window i.what) q.items || is_order_other s.columns q.order
 
--- a count of rows of LIMIT or OFFSET is 0 to 4294967295
+-- a count of rows of LIMIT or OFFSET is 0 to the greatest that there is
 abbrev pub is_count : ℤ → Bool
-is_count n = int_le (pos 0) n && int_le n (pos 4294967295)
+is_count n = int_le (pos 0) n && int_le n (pos LAST_COUNT)
 
 abbrev pub is_bad_limit : Query → Bool
 is_bad_limit q = not (is_count q.skip) || option_map_or (λ n. not (is_count n)) q.limit false
@@ -121,13 +119,15 @@ body_cause s q = first_cause (
     ∷ when (is_bad_limit q) cause.BadLimit
     ∷ [])
 
-abbrev pub query_cause : Query → Catalog → Option Cause
-query_cause q c = first_cause (
-    when (not (is_row_query q)) cause.OptionNotBuilt
-    ∷ when (not (is_taken q.source c)) cause.UnknownTable
-    ∷ when (is_target q.source c) (target_cause q)
-    ∷ body_cause (source_schema q.source c) q
+-- the causes of its source
+abbrev pub source_cause : Query → Catalog → Option Cause
+source_cause q c = first_cause (
+    when (not (is_taken q.source c)) cause.UnknownTable
+    ∷ when (is_target q.source c && not (reads_all q)) cause.TargetOfStream
     ∷ [])
+
+abbrev pub query_cause : Query → Catalog → Option Cause
+query_cause q c = option_or (source_cause q c) (body_cause (source_schema q.source c) q)
 
 abbrev pub passes_or : Option Cause → Verdict
 passes_or None = Pass

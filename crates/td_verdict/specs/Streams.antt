@@ -2,8 +2,6 @@
 use Rattle.std.specs.Prelude.{ℕ, ◌||◌, Bool, true, false, not, nat_lt, nat_le, List, [], ◌∷◌, length, Option, is_some}
 use Rattle.td_model.specs.declared.language.OrderBy.{OrderBy}
 use Rattle.td_model.specs.declared.language.OrderBy.TheVariants.{Plain}
-use Rattle.td_model.specs.declared.language.WindowDef.{WindowDef}
-use Rattle.td_model.specs.declared.language.WindowDef.TheVariants.{Whole}
 use Rattle.td_model.specs.declared.language.Trigger.{Trigger}
 use Rattle.td_model.specs.declared.language.Trigger.TheVariants.{MaxDelay}
 use Rattle.td_model.specs.declared.language.Query.{Query}
@@ -13,6 +11,8 @@ use Rattle.td_model.specs.declared.history.Verdict.{Verdict}
 use Rattle.td_model.specs.declared.report.Many.TheVariants as many
 use Rattle.td_model.specs.declared.report.Cause.{Cause}
 use Rattle.td_model.specs.declared.report.Cause.TheVariants as cause
+use Rattle.td_limits.specs.declared.limits.TheConstants.{LAST_STREAM_NUMBER, LONGEST_DURATION, STREAMS}
+use Rattle.td_model.specs.Built.{is_whole}
 use Rattle.td_model.specs.Catalog.{Catalog}
 use Rattle.td_verdict.specs.Causes.{when, first_cause, accepted_or}
 use Rattle.td_verdict.specs.Names.{is_taken, is_target, is_stream}
@@ -33,16 +33,12 @@ source_cause source c = first_cause (
     ∷ when (is_target source c) cause.SourceIsTarget
     ∷ [])
 
--- 64 streams live, or the number of one more would be above 4294967294
+-- as many streams live as may, or the number of one more would be above the last
 abbrev pub stream_count_cause : Catalog → Option Cause
 stream_count_cause c = first_cause (
-    when (nat_le 64 (length c.streams)) (cause.TooMany many.Streams 64)
-    ∷ when (nat_lt 4294967294 c.next_stream) (cause.TooMany many.Numbers 4294967294)
+    when (nat_le STREAMS (length c.streams)) (cause.TooMany many.Streams STREAMS)
+    ∷ when (nat_lt LAST_STREAM_NUMBER c.next_stream) (cause.TooMany many.Numbers LAST_STREAM_NUMBER)
     ∷ [])
-
-abbrev pub is_whole : WindowDef → Bool
-is_whole Whole = true
-is_whole _ = false
 
 abbrev pub is_plain : OrderBy → Bool
 is_plain Plain = true
@@ -54,7 +50,7 @@ is_no_stream q = is_whole q.window || not (is_plain q.order) || is_some q.limit
 
 -- a duration of more than 10000 years of 365 days
 abbrev pub is_long : ℕ → Bool
-is_long duration = nat_lt 315360000000000 duration
+is_long duration = nat_lt LONGEST_DURATION duration
 
 abbrev pub is_delay_long : Trigger → Bool
 is_delay_long (MaxDelay delay) = is_long delay

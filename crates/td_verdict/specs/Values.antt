@@ -11,7 +11,8 @@ use Rattle.td_layer.specs.declared.values.Cell.{Cell}
 use Rattle.td_layer.specs.declared.values.Cell.TheVariants as cell
 use Rattle.td_model.specs.declared.language.Lit.{Lit}
 use Rattle.td_model.specs.declared.language.Lit.TheVariants as lit
-use Rattle.td_lex.specs.Stamps.{timestamp_of}
+use Rattle.td_limits.specs.declared.limits.TheConstants.{TAG_BYTES}
+use Rattle.td_times.specs.Stamps.{timestamp_of}
 use Rattle.td_verdict.specs.Names.{is_time}
 
 abbrev pub is_truth : Kind → Bool
@@ -80,6 +81,6 @@ tag_from k None None = cell.Null
 abbrev pub tag_of : Kind → ℕ → Lit → Cell
 tag_of k moment l = tag_from k (number_at k moment l) (text_at k l)
 
--- a text's bytes are 1 to 4096
+-- a text has 1 byte or more, and not too many
 abbrev pub has_width : Kind → Bool
-has_width k = option_map_or (λ n. nat_le 1 n && nat_le n 4096) (width_of k) true
+has_width k = option_map_or (λ n. nat_le 1 n && nat_le n TAG_BYTES) (width_of k) true

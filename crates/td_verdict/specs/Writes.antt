@@ -21,7 +21,7 @@ use Rattle.td_model.specs.declared.report.Many.TheVariants as many
 use Rattle.td_model.specs.declared.report.Cause.{Cause}
 use Rattle.td_model.specs.declared.report.Cause.TheVariants as cause
 use Rattle.td_model.specs.Catalog.{Catalog, stable_named, table_named, stream_named}
-use Rattle.td_model.specs.State.{day_range}
+use Rattle.td_limits.specs.declared.limits.TheConstants.{COLUMNS, DAY_RANGE, INSERT_ROWS, KEEP, LAST_TIMESTAMP, TABLES, TAGS}
 use Rattle.td_verdict.specs.Causes.{when, first_cause, accepted_or}
 use Rattle.td_verdict.specs.Names.{is_stable, is_target, is_taken, is_stream, number_or_none, table_schema, stable_schema, stands_twice, names_of, is_named, column_named, is_first, lacks_time}
 use Rattle.td_verdict.specs.Values.{number_at, is_null, suits, fits, value_of, tag_of, has_width}
@@ -37,16 +37,16 @@ first_given give (x ∷ xs) = option_or (give x) (first_given give xs)
 abbrev pub width_cause : List Column → Option Cause
 width_cause columns = option_map (λ c. cause.OutOfRange c.name) (find (λ c. not (has_width c.kind)) columns)
 
--- one more table or supertable is more than 1048576 together
+-- one more table or supertable would be too many together
 abbrev pub is_full : Catalog → Bool
-is_full c = nat_le 1048576 (length c.tables + length c.stables)
+is_full c = nat_le TABLES (length c.tables + length c.stables)
 
 -- The place of a name is before that of the columns, whose place is before that of the tags.
 abbrev pub count_cause : List Column → List Column → Catalog → Option Cause
 count_cause columns tags c = first_cause (
-    when (is_full c) (cause.TooMany many.Tables 1048576)
-    ∷ when (nat_lt 256 (length columns)) (cause.TooMany many.Columns 256)
-    ∷ when (nat_lt 32 (length tags)) (cause.TooMany many.Tags 32)
+    when (is_full c) (cause.TooMany many.Tables TABLES)
+    ∷ when (nat_lt COLUMNS (length columns)) (cause.TooMany many.Columns COLUMNS)
+    ∷ when (nat_lt TAGS (length tags)) (cause.TooMany many.Tags TAGS)
     ∷ [])
 
 -- two columns or tags have one name
@@ -108,7 +108,7 @@ tags_cause tags lits moment c = first_cause (
     when (not (length lits == length tags)) cause.Arity
     ∷ mismatch_of (first_column (is_mismatch moment) tags lits)
     ∷ outside_of (first_column (is_outside [] moment) tags lits)
-    ∷ when (is_full c) (cause.TooMany many.Tables 1048576)
+    ∷ when (is_full c) (cause.TooMany many.Tables TABLES)
     ∷ [])
 
 abbrev pub make_sub_cause : List ℕ → List ℕ → List Column → List Lit → ℕ → Catalog → Option Cause
@@ -163,15 +163,11 @@ cell_at moment group kind place = option_map (value_of kind moment) (literal_at 
 
 abbrev pub is_before : ℕ → Option ℤ → Bool
 is_before edge None = false
-is_before edge (Some ts) = int_lt ts (pos (edge * day_range))
-
--- the end of the year 9999
-abbrev pub last_time : ℕ
-last_time = 253402300799999
+is_before edge (Some ts) = int_lt ts (pos (edge * DAY_RANGE))
 
 -- a number brought into the range of timestamps
 abbrev pub time_from : ℤ → ℕ
-time_from (pos n) = min n last_time
+time_from (pos n) = min n LAST_TIMESTAMP
 time_from (negsuc n) = 0
 
 -- A group as a put into a table: each column but the first has its literal's value, and one that isn't chosen isn't named.
@@ -200,7 +196,7 @@ list_cause columns names = first_cause (
 -- of the number of the groups, and of their timestamps
 abbrev pub rows_cause : List Column → List Column → List (List Lit) → ℕ → ℕ → Option Cause
 rows_cause columns places groups edge moment = first_cause (
-    when (nat_lt 16384 (length groups)) (cause.TooMany many.Rows 16384)
+    when (nat_lt INSERT_ROWS (length groups)) (cause.TooMany many.Rows INSERT_ROWS)
     ∷ when (list_any (λ group. is_before edge (time_at moment group (first_place columns places))) groups) (cause.BeforeEdge edge)
     ∷ [])
 
@@ -250,7 +246,7 @@ abbrev pub cut_between : ℕ → ℤ → ℤ → What
 cut_between table lo hi = if int_lt hi lo then what.Cut table 1 0 else what.Cut table (time_from lo) (time_from hi)
 
 abbrev pub cut_of : ℕ → ℤ → ℤ → What
-cut_of table lo hi = cut_between table (int_max lo (pos 0)) (int_min hi (pos last_time))
+cut_of table lo hi = cut_between table (int_max lo (pos 0)) (int_min hi (pos LAST_TIMESTAMP))
 
 abbrev pub delete_in : List ℕ → List Column → List ℕ → Lit → Lit → ℕ → Catalog → Verdict
 delete_in table columns column lo hi moment c =
@@ -261,32 +257,16 @@ delete_verdict table column lo hi moment c = delete_in table (table_schema (tabl
 
 -- ---- TRIM, DROP STREAM
 
--- the time that rows are kept: 3650 days
-abbrev pub keep : ℕ
-keep = 315360000000
-
 -- the edge rises to the day range of the moment that long ago, and never falls
 abbrev pub trim_verdict : ℕ → ℕ → Verdict
-trim_verdict edge moment = accepted_or None (what.Edge (max edge ((moment - keep) / day_range))) 0
+trim_verdict edge moment = accepted_or None (what.Edge (max edge ((moment - KEEP) / DAY_RANGE))) 0
 
 abbrev pub drop_stream_verdict : List ℕ → Catalog → Verdict
 drop_stream_verdict name c = accepted_or (when (not (is_stream name c)) cause.UnknownStream) (what.DropStream (number_or_none (stream_named name c))) 0
 
 -- ---- all
 
--- whether a statement is a write: CREATE, INSERT, DELETE, TRIM or DROP
-abbrev pub is_write : Stmt → Bool
-is_write (stmt.MakeStable name columns tags) = true
-is_write (stmt.MakeTable name columns) = true
-is_write (stmt.MakeSub name stable tags) = true
-is_write (stmt.Insert table columns rows) = true
-is_write (stmt.Delete table column lo hi) = true
-is_write (stmt.MakeStream def) = true
-is_write stmt.Trim = true
-is_write (stmt.DropStream name) = true
-is_write _ = false
-
--- What a write meets. CREATE STREAM is not built yet. Any other statement passes, and a text that is no statement has its cause.
+-- What a write that is built meets. CREATE STREAM isn't built: what it meets beside the causes of its query stands in `Streams`.
 abbrev pub write_verdict : Stmt → Catalog → ℕ → ℕ → Verdict
 write_verdict (stmt.MakeStable name columns tags) c edge moment = make_stable_verdict name columns tags c
 write_verdict (stmt.MakeTable name columns) c edge moment = make_table_verdict name columns c
@@ -295,6 +275,4 @@ write_verdict (stmt.Insert table columns rows) c edge moment = insert_verdict ta
 write_verdict (stmt.Delete table column lo hi) c edge moment = delete_verdict table column lo hi moment c
 write_verdict stmt.Trim c edge moment = trim_verdict edge moment
 write_verdict (stmt.DropStream name) c edge moment = drop_stream_verdict name c
-write_verdict (stmt.MakeStream def) c edge moment = Refuse cause.OptionNotBuilt
-write_verdict (stmt.Wrong why) c edge moment = Refuse why
 write_verdict _ c edge moment = Pass

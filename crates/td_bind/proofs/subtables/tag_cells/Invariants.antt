@@ -1,6 +1,6 @@
 use Rattle.std.proofs.Common.{◌≡◌, ◌++◌, drop}
-use Rattle.td_verdict.specs.Writes.{tag_cells}
+use Rattle.td_bind.specs.Literals.{cells_said}
 use Rattle.td_bind.proofs.subtables.tag_cells.Given as goal
 
 abbrev pub invariant-loop-i : goal.invariant-loop-i
-invariant-loop-i l = tag_cells l.moment l.tags l.lits ≡ l.cells ++ tag_cells l.moment (drop l.i l.tags) (drop l.i l.lits)
+invariant-loop-i l = cells_said l.tags l.said l.lits ≡ l.cells ++ cells_said (drop l.i l.tags) (drop l.i l.said) (drop l.i l.lits)

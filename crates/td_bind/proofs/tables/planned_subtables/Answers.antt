@@ -1,7 +1,7 @@
 use Rattle.std.proofs.Common.{◌≡◌, ◌∙◌, ap, sym, subst, ◌-◌, ◌+◌, filter, Some}
 use Rattle.std.specs.Option.{option_copied}
 use Rattle.td_model.specs.Tags.{matching}
-use Rattle.td_bind.specs.Tables.{is_planned, AreThere, first_of_tag}
+use Rattle.td_bind.specs.Tables.{is_planned, AreThere, first_indexed}
 use Rattle.td_bind.proofs.ByNumber.{planned_from_all, planned_from_found, matching_there}
 use Rattle.td_bind.proofs.tables.planned_subtables.Goals as goal
 
@@ -20,7 +20,7 @@ returns c =
     let p = c.in-Some.first.now in
     let catalog = c.args.catalog.now.catalog in
     let found = c.as_slice-found.ensures ∙ c.in_ok-found.ensures ∙ ap (matching (p.place - (c.args.columns + 1)) p.op p.operand) c.requires in
-    let first : first_of_tag c.args.columns c.args.comparisons.now ≡ Some p = sym c.first_of_tag.ensures.first ∙ ap option_copied c.in-Some.is in
+    let first : first_indexed c.args.columns c.args.comparisons.now ≡ Some p = sym c.first_indexed.ensures.first ∙ ap option_copied c.in-Some.is in
     c.in_ok-planned-2.ensures
     ∙ ap (filter (is_planned c.args.stable c.args.columns c.args.comparisons.now catalog)) found
     ∙ planned_from_found c.args.stable c.args.columns c.args.comparisons.now p catalog first

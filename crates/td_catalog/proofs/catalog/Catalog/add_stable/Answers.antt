@@ -1,8 +1,9 @@
-use Rattle.std.proofs.Common.{◌≡◌, ◌∙◌, ◌++◌, [], ◌∷◌, length, ap, arith}
+use Rattle.std.proofs.Common.{◌≡◌, ◌∙◌, ◌++◌, [], ◌∷◌, length, ap, sym, subst, arith}
 use Rattle.std.specs.Str.{bytes_eq}
 use Rattle.std.proofs.lemmas.List.{length-map}
 use Rattle.indexmap.specs.IndexMap.{values}
 use Rattle.td_model.specs.Catalog.{stable_named}
+use Rattle.td_verdict.specs.Valid.{IsValid}
 use Rattle.td_catalog.specs.Inside.{catalog_of}
 use Rattle.td_catalog.proofs.Found.{stable-absent}
 use Rattle.td_catalog.proofs.Growth.{appended, pushed, values-pushed, length-pushed, parents-stay}
@@ -16,6 +17,11 @@ last c =
 
 values_last : (c : goal.Joined-unwrap) → values c.insert.new.self ≡ values c.self.inside.stables ++ c.args.def ∷ []
 values_last c = values-pushed c.self.inside.stables.entries c.insert.new.self.entries c.args.key c.args.def (last c)
+
+same : (c : goal.Joined-unwrap) → record (catalog_of c.self.inside) { stables = values c.insert.new.self } ≡ record c.args.self.now.catalog { stables = c.args.self.now.catalog.stables ++ c.args.def ∷ [] }
+same c =
+    ap (λ xs. record (catalog_of c.self.inside) { stables = xs }) (values_last c)
+    ∙ ap (λ k. record k.catalog { stables = k.catalog.stables ++ c.args.def ∷ [] }) c.self.view_is
 
 pub invariant_of-self : goal.invariant_of-self
 invariant_of-self c =
@@ -35,9 +41,8 @@ invariant_of-self c =
       table_count = h.table_count;
       stream_count = h.stream_count;
       next_fits = h.next_fits;
+      valid = subst IsValid (sym (same c)) c.requires.valid;
     }
 
 pub returns : goal.returns
-returns c =
-    ap (λ xs. record (catalog_of c.self.inside) { stables = xs }) (values_last c)
-    ∙ ap (λ k. record k.catalog { stables = k.catalog.stables ++ c.args.def ∷ [] }) c.self.view_is
+returns c = same c

@@ -2,6 +2,8 @@ use Rattle.std.proofs.Common.{◌≡◌, ◌∙◌, ◌+◌, ◌++◌, [], ◌�
 use Rattle.std.specs.Str.{bytes_eq}
 use Rattle.td_model.specs.declared.catalog.StreamEntry.{StreamEntry}
 use Rattle.td_model.specs.Catalog.{stream_named, target_named}
+use Rattle.indexmap.specs.IndexMap.{values}
+use Rattle.td_verdict.specs.Valid.{IsValid}
 use Rattle.td_catalog.specs.Inside.{catalog_of, AreTargets}
 use Rattle.td_catalog.proofs.Found.{stream-absent, target-absent}
 use Rattle.td_catalog.proofs.Growth.{appended, pushed, values-pushed, length-pushed, targets-pushed}
@@ -20,6 +22,13 @@ last_target : (c : goal.After-unwrap-2) → c.insert-2.new.self.entries ≡ c.se
 last_target c =
     appended (λ x y. bytes_eq x.items y.items) c.self.inside.targets c.insert-2.new.self c.args.target c.self.inside.next_stream c.insert-2.result c.unwrap-2.result c.unwrap-2.ensures c.insert-2.ensures.entries
     (target-absent c.self.inside c.self.invariant c.args.def.target c.args.target.items c.requires.target (ap (λ k. target_named c.args.def.target k.catalog) c.self.view_is ∙ c.requires.target_free))
+
+same : (c : goal.After-unwrap-2)
+    → record (catalog_of c.self.inside) { streams = values c.insert.new.self; next_stream = c.self.inside.next_stream + 1 }
+      ≡ record c.args.self.now.catalog { streams = c.args.self.now.catalog.streams ++ record { number = c.args.self.now.catalog.next_stream; def = c.args.def } ∷ []; next_stream = c.args.self.now.catalog.next_stream + 1 }
+same c =
+    ap (λ xs. record (catalog_of c.self.inside) { streams = xs; next_stream = c.self.inside.next_stream + 1 }) (values-pushed c.self.inside.streams.entries c.insert.new.self.entries c.args.key (entry c) (last c))
+    ∙ ap (λ k. record k.catalog { streams = k.catalog.streams ++ record { number = k.catalog.next_stream; def = c.args.def } ∷ []; next_stream = k.catalog.next_stream + 1 }) c.self.view_is
 
 pub invariant_of-self : goal.invariant_of-self
 invariant_of-self c =
@@ -40,9 +49,8 @@ invariant_of-self c =
       table_count = h.table_count;
       stream_count = omega (arith, h.stream_count);
       next_fits = omega (arith, c.requires.count);
+      valid = subst IsValid (sym (same c)) c.requires.valid;
     }
 
 pub returns : goal.returns
-returns c =
-    ap (λ xs. record (catalog_of c.self.inside) { streams = xs; next_stream = c.self.inside.next_stream + 1 }) (values-pushed c.self.inside.streams.entries c.insert.new.self.entries c.args.key (entry c) (last c))
-    ∙ ap (λ k. record k.catalog { streams = k.catalog.streams ++ record { number = k.catalog.next_stream; def = c.args.def } ∷ []; next_stream = k.catalog.next_stream + 1 }) c.self.view_is
+returns c = same c

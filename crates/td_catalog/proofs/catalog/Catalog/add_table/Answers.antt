@@ -4,6 +4,7 @@ use Rattle.std.proofs.lemmas.List.{length-map, map_push}
 use Rattle.indexmap.specs.IndexMap.{values}
 use Rattle.td_model.specs.Catalog.{table_named}
 use Rattle.td_catalog.specs.Tables.{table_of, HasParent}
+use Rattle.td_verdict.specs.Valid.{IsValid}
 use Rattle.td_catalog.specs.Inside.{catalog_of}
 use Rattle.td_catalog.proofs.Found.{table-absent}
 use Rattle.td_catalog.proofs.Growth.{appended, pushed, values-pushed, length-pushed}
@@ -17,6 +18,12 @@ last c =
 
 values_last : (c : goal.Joined-unwrap) → values c.insert.new.self ≡ values c.self.inside.tables ++ c.args.table ∷ []
 values_last c = values-pushed c.self.inside.tables.entries c.insert.new.self.entries c.args.key c.args.table (last c)
+
+same : (c : goal.Joined-unwrap) → record (catalog_of c.self.inside) { tables = map table_of (values c.insert.new.self) } ≡ record c.args.self.now.catalog { tables = c.args.self.now.catalog.tables ++ table_of c.args.table ∷ [] }
+same c =
+    ap (λ xs. record (catalog_of c.self.inside) { tables = map table_of xs }) (values_last c)
+    ∙ ap (λ xs. record (catalog_of c.self.inside) { tables = xs }) (map_push table_of (values c.self.inside.tables) c.args.table)
+    ∙ ap (λ k. record k.catalog { tables = k.catalog.tables ++ table_of c.args.table ∷ [] }) c.self.view_is
 
 pub invariant_of-self : goal.invariant_of-self
 invariant_of-self c =
@@ -37,10 +44,8 @@ invariant_of-self c =
       table_count = omega (arith, c.requires.count);
       stream_count = h.stream_count;
       next_fits = h.next_fits;
+      valid = subst IsValid (sym (same c)) c.requires.valid;
     }
 
 pub returns : goal.returns
-returns c =
-    ap (λ xs. record (catalog_of c.self.inside) { tables = map table_of xs }) (values_last c)
-    ∙ ap (λ xs. record (catalog_of c.self.inside) { tables = xs }) (map_push table_of (values c.self.inside.tables) c.args.table)
-    ∙ ap (λ k. record k.catalog { tables = k.catalog.tables ++ table_of c.args.table ∷ [] }) c.self.view_is
+returns c = same c

@@ -1,6 +1,0 @@
-use Rattle.std.proofs.Common.{◌≡◌, drop}
-use Rattle.td_verdict.specs.Plans.{all_hold_of_tags}
-use Rattle.td_bind.proofs.tables.all_hold_of_tags.Given as goal
-
-abbrev pub invariant-loop-comparison : goal.invariant-loop-comparison
-invariant-loop-comparison l = all_hold_of_tags l.columns l.comparisons l.tags ≡ all_hold_of_tags l.columns (drop l.comparison-index l.comparisons) l.tags

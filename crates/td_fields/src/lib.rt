@@ -1,0 +1,23 @@
+//! [binding] What the names and the literals of a statement mean over a schema, without a catalog.
+//!
+//! [`said_at`] reads a literal at a column or a tag once: as NULL, a number or a text, or as nothing that suits there; whether it
+//! suits and fits, and its value, are read off that. [`field_named`] and [`column_named`] find the column of a name.
+//! [`comparisons`] makes the conditions of a query comparisons of a row's cells, [`shown_places`] says which cells its select list
+//! shows, and [`header`] what they are called. A row's cells are its table's name, at place 0, then its columns, from place 1 on,
+//! then its table's tags. Promised is just what the definitions say (`td_verdict`).
+//!
+//! It stands on `td_verdict` for the definitions, on `td_times` for the texts of timestamps, and on
+//! `td_model` and `td_layer` for the types.
+#![tactic(auto)]
+
+mod fields;
+mod literals;
+mod names;
+mod times;
+mod titles;
+
+pub use fields::{TBNAME, comparisons, field_named, shown_places};
+pub use literals::{Said, cell_said, number_cell, said_at};
+pub use names::{add_names, column_named, has_width, is_first, is_time, lacks_time, place_of, same};
+pub use times::time_from;
+pub use titles::header;

@@ -1,0 +1,83 @@
+//! The header of a query's answer.
+ghost use Rattle.std.specs.Prelude.{◌≡◌, map, IfOk};
+ghost use Rattle.td_verdict.specs.Names.{names_of};
+ghost use Rattle.td_verdict.specs.Answers.{star_fields, item_text, item_title, header_over};
+
+use crate::names::add_names;
+use std::alloc::Global;
+use td_layer::{Copied, Name, NoMem, Seq};
+use td_model::{Item, ItemKind, Query, Schema};
+
+// The names of what `*` shows of a row.
+fn star_names(alloc: Global, is_table: bool, schema: &Schema) -> Result<Seq<Name>, NoMem>
+    ensures { IfOk result (λ names. names ≡ names_of (star_fields is_table schema.now)) }
+{
+    let mut names = Seq::new(alloc);
+    add_names(&mut names, schema.columns.as_slice())?;
+    if !is_table {
+        add_names(&mut names, schema.tags.as_slice())?;
+    }
+    Ok(names)
+}
+
+// The name of an item.
+fn item_text(alloc: Global, what: &ItemKind) -> Result<Name, NoMem>
+    ensures { IfOk result (λ name. name ≡ item_text what.now) }
+{
+    match what {
+        ItemKind::TbName => {
+            let name = Seq::of_bytes(alloc, b"TBNAME")?;
+            Ok(name)
+        }
+        ItemKind::Col(name) => {
+            let name = name.copy()?;
+            Ok(name)
+        }
+        _ => Ok(Seq::new(alloc)),
+    }
+}
+
+// An item's alias, or else its name.
+fn item_title(alloc: Global, item: &Item) -> Result<Name, NoMem>
+    ensures { IfOk result (λ title. title ≡ item_title item.now) }
+{
+    match &item.alias {
+        Some(alias) => {
+            let title = alias.copy()?;
+            Ok(title)
+        }
+        None => {
+            let title = item_text(alloc, &item.what)?;
+            Ok(title)
+        }
+    }
+}
+
+// The titles of the items of a select list.
+fn item_titles(alloc: Global, items: &[Item]) -> Result<Seq<Name>, NoMem>
+    ensures { IfOk result (λ titles. titles ≡ map item_title items.now) }
+{
+    let mut titles = Seq::new(alloc);
+    for item in items {
+        let title = item_title(alloc, item)?;
+        titles.add(title)?;
+    }
+    Ok(titles)
+}
+
+/// The header of a query's answer over a schema: of each item its alias, or else its name.
+pub fn header(
+    alloc: Global,
+    is_table: bool,
+    schema: &Schema,
+    query: &Query,
+) -> Result<Seq<Name>, NoMem>
+    ensures { IfOk result (λ names. names ≡ header_over is_table schema.now query.now) }
+{
+    if query.star {
+        let names = star_names(alloc, is_table, schema)?;
+        return Ok(names);
+    }
+    let names = item_titles(alloc, query.items.as_slice())?;
+    Ok(names)
+}
