@@ -4,7 +4,6 @@ pub mod Twice
 pub mod Filters
 pub mod ByNumber
 pub mod Planned
-pub mod Schemas
 pub mod Suited
 pub mod Read
 pub mod MadeSub
