@@ -5,7 +5,8 @@ use Rattle.std.proofs.lemmas.Int.{ints}
 use Rattle.td_layer.specs.declared.values.Key.{Key}
 use Rattle.td_layer.specs.declared.values.Value.{Value}
 use Rattle.td_layer.specs.declared.values.Value.TheVariants as value
-use Rattle.td_aggr.specs.Aggregates.{IsColumnNumber, IsColumnValue, is_before}
+use Rattle.td_layer.specs.Columns.{IsColumnNumber, IsColumnValue}
+use Rattle.td_aggr.specs.Aggregates.{is_before}
 use Rattle.td_aggr.specs.declared.tally.Tally.{Tally}
 use Rattle.td_aggr.specs.Tallies.{Mark, key_of, lesser, greater, earlier, later, empty_tally, tally_of_row, tally_of, merged, IsSound}
 

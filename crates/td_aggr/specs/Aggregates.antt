@@ -1,6 +1,6 @@
 -- What the aggregates of a column are, over a list of rows.
 -- A row stands here as its key and its value in the column. COUNT(*), which looks at no column, is the length of the list.
-use Rattle.std.specs.Prelude.{◌≡◌, ◌≢◌, ◌^◌, ℤ, pos, neg_ℤ, ◌+ℤ◌, ◌-ℤ◌, ◌≤ℤ◌, ◌<ℤ◌, Bool, true, ◌&&◌, ◌||◌, ◌==◌, nat_lt, if◌then◌else◌, List, [], ◌∷◌, length, map, Option, Some, None}
+use Rattle.std.specs.Prelude.{◌≡◌, ◌≢◌, ℤ, pos, ◌+ℤ◌, ◌-ℤ◌, Bool, true, ◌&&◌, ◌||◌, ◌==◌, nat_lt, if◌then◌else◌, List, [], ◌∷◌, length, map, Option, Some, None}
 use Rattle.std.specs.Int.{int_min, int_max}
 use Rattle.std.specs.List.{filter_map, AllByRecursion}
 use Rattle.td_layer.specs.declared.values.Key.{Key}
@@ -10,15 +10,6 @@ use Rattle.td_layer.specs.declared.values.Func.{Func}
 use Rattle.td_layer.specs.declared.values.Func.TheVariants.{Count, Sum, Min, Max, Avg, First, Last, Spread}
 use Rattle.td_layer.specs.declared.values.Cell.{Cell}
 use Rattle.td_layer.specs.declared.values.Cell.TheVariants as cell
-
--- the numbers that a column can hold: from -2^63 to 2^64 - 1
-abbrev pub IsColumnNumber : ℤ → Type 0
-IsColumnNumber n = (neg_ℤ (pos (2 ^ 63)) ≤ℤ n) × (n <ℤ pos (2 ^ 64))
-
--- NULL, or such a number
-abbrev pub IsColumnValue : Value → Type 0
-IsColumnValue value.Null = Unit {0}
-IsColumnValue (value.Num n) = IsColumnNumber n
 
 -- whether one key stands before another in the order of rows: by timestamp, then by table
 abbrev pub is_before : Key → Key → Bool

@@ -8,7 +8,8 @@ use Rattle.td_layer.specs.declared.values.Func.{Func}
 use Rattle.td_layer.specs.declared.values.Func.TheVariants.{Count, Sum, Min, Max, Avg, First, Last, Spread}
 use Rattle.td_layer.specs.declared.values.Cell.{Cell}
 use Rattle.td_layer.specs.declared.values.Cell.TheVariants as cell
-use Rattle.td_aggr.specs.Aggregates.{IsColumnNumber, IsColumnValue, is_before}
+use Rattle.td_layer.specs.Columns.{IsColumnNumber, IsColumnValue}
+use Rattle.td_aggr.specs.Aggregates.{is_before}
 use Rattle.td_aggr.specs.declared.tally.Tally.{Tally}
 
 -- a number with its timestamp and table

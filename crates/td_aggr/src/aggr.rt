@@ -4,7 +4,8 @@ ghost use Rattle.td_layer.specs.declared.values.Key.{Key as RowKey};
 ghost use Rattle.td_layer.specs.declared.values.Value.{Value as RowValue};
 ghost use Rattle.td_layer.specs.declared.values.Func.{Func as Aggregate};
 ghost use Rattle.td_layer.specs.declared.values.Cell.{Cell as Shown};
-ghost use Rattle.td_aggr.specs.Aggregates.{IsColumnValue, aggregate};
+ghost use Rattle.td_layer.specs.Columns.{IsColumnValue};
+ghost use Rattle.td_aggr.specs.Aggregates.{aggregate};
 
 use td_layer::{Cell, Func, Key, Value};
 

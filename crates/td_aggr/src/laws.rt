@@ -7,7 +7,8 @@ ghost use Rattle.td_layer.specs.declared.values.Value.{Value};
 ghost use Rattle.td_layer.specs.declared.values.Func.{Func};
 ghost use Rattle.td_layer.specs.declared.values.Func.TheVariants as func;
 ghost use Rattle.td_layer.specs.declared.values.Cell.TheVariants as cell;
-ghost use Rattle.td_aggr.specs.Aggregates.{aggregate, not_null, HaveOwnKeys, IsColumnValue, IsInRowOrder};
+ghost use Rattle.td_layer.specs.Columns.{IsColumnValue};
+ghost use Rattle.td_aggr.specs.Aggregates.{aggregate, not_null, HaveOwnKeys, IsInRowOrder};
 ghost use Rattle.td_aggr.specs.Tallies.{IsSound, tally_of};
 
 /// The tally of a list counts the rows, and of these at most all as numbers. It is sound where each value is one that a

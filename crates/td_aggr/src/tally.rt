@@ -1,7 +1,8 @@
 //! The tally of a column, which serves every aggregate.
 ghost use Rattle.std.specs.Prelude.{◌≡◌};
 ghost use Rattle.td_aggr.specs.Tallies.{lesser, greater, earlier, later, cell_of_value, cell_of_range, cell_of_mark, unless_none, IsSound, Fit, empty_tally, tally_of_row, tally_of, merged, shown, key_of};
-ghost use Rattle.td_aggr.specs.Aggregates.{IsColumnValue, is_before};
+ghost use Rattle.td_layer.specs.Columns.{IsColumnValue};
+ghost use Rattle.td_aggr.specs.Aggregates.{is_before};
 ghost use Rattle.td_aggr.specs.Laws as laws;
 
 use crate::aggr::Aggr;

@@ -9,11 +9,12 @@ use Rattle.td_model.specs.declared.language.Lit.{Lit}
 use Rattle.td_model.specs.declared.language.ItemKind.{ItemKind}
 use Rattle.td_model.specs.declared.language.ItemKind.TheVariants as item_kind
 use Rattle.td_grammar.specs.declared.lexemes.Lexeme.{Lexeme}
-use Rattle.td_grammar.specs.Grammar.{has, Passes, G, Derives, valued, both, under, maybe, either, loop}
-use Rattle.td_grammar.specs.Words.{word_of, name, listed, CLOSE_PAREN}
+use Rattle.td_grammar.specs.Grammar.{has, only, within, Passes, G, Derives, valued, both, under, maybe, either, loop}
+use Rattle.td_grammar.specs.declared.kinds.TheConstants as kinds
+use Rattle.td_grammar.specs.Words.{word_of, name, listed, comma_list}
 use Rattle.td_clauses.specs.declared.drafts.Clause.{Clause}
-use Rattle.td_clauses.specs.Productions.{inside, truth, word_lit, a_lit, further_lit, lits, counted, counted_or, count_thing, func_of, applied, function_thing, named_thing, thing, item, further_item, item_list, items, part, further_part, part_list, compares, between, null_test, a_test, clause, further_clause, cond_list, where_part, partition_part, clauses, query}
-use Rattle.td_clauses.specs.Written.{written_lit, written_lits, written_thing, written_item, written_items, written_part, written_cond, written_conds, written_clauses, written_query}
+use Rattle.td_clauses.specs.Productions.{inside, truth, word_lit, a_lit, lits, count_argument, count_or_name, count_item, func_of, applied, function_item, named_item, selected, select_item, select_items, items, part, part_list, compares, between, null_test, a_test, clause, further_clause, cond_list, where_part, partition_part, clauses, query}
+use Rattle.td_clauses.specs.Written.{written_lit, written_lits, written_selected, written_item, written_items, written_part, written_cond, written_conds, written_clauses, written_query}
 
 -- what the one derives, the other does
 pub record Into {E A : Type 0} (g h : G E A) : Type 0 where
@@ -71,8 +72,11 @@ in_loop {E} {S} {A} {s} {ok} {next} p = record { into = λ e ts end (each, d). (
 pub in_listed : {E A : Type 0} {g h i j : G E A} → Into g i → Into h j → Into (listed g h) (listed i j)
 in_listed p q = in_both p (in_loop q)
 
+pub in_comma_list : {E A : Type 0} {g h : G E A} → Into g h → Into (comma_list g) (comma_list h)
+in_comma_list p = in_listed p (in_second p)
+
 pub in_inside : {E A : Type 0} {g h : G E A} → Into g h → Into (inside g) (inside h)
-in_inside p = in_second (in_both p (kept CLOSE_PAREN))
+in_inside p = in_second (in_both p (kept _))
 
 -- a choice behind a beginning is a choice of two with that beginning
 pub apart : {E A B C : Type 0} (k : A → B → C) (g : G E A) (h i : G E B) → Into (both k g (either h i)) (either (both k g h) (both k g i))
@@ -111,12 +115,12 @@ lit_out {E} = record { into = go }
     go e ts a (inr (inr (inr (inr (inr d))))) = inr (inr (inr (inl d)))
 
 pub lits_in : {E : Type 0} → Into (lits {E = E}) written_lits
-unfolding lits further_lit written_lits
-lits_in = in_listed lit_in (in_second lit_in)
+unfolding lits written_lits
+lits_in = in_comma_list lit_in
 
 pub lits_out : {E : Type 0} → Into (written_lits {E = E}) lits
-unfolding lits further_lit written_lits
-lits_out = in_listed lit_out (in_second lit_out)
+unfolding lits written_lits
+lits_out = in_comma_list lit_out
 
 -- parts and conditions
 part_in : {E : Type 0} → Into (part {E = E}) written_part
@@ -175,16 +179,16 @@ above a b h = go (leb_tells a b)
 
 -- a name is a function's word or another one
 abbrev IsCount : ℕ → Type 0
-IsCount k = (has k ((35, 35) ∷ []) && true) ≡ true
+IsCount k = (has k (only kinds.COUNT) && true) ≡ true
 
 abbrev IsFunction : ℕ → Type 0
-IsFunction k = (has k ((36, 42) ∷ []) && true) ≡ true
+IsFunction k = (has k (within kinds.COLUMN_FUNCTIONS) && true) ≡ true
 
 abbrev IsPlain : ℕ → Type 0
-IsPlain k = (has k ((20, 34) ∷ (43, 79) ∷ []) && true) ≡ true
+IsPlain k = (has k (within kinds.NAMES_BELOW_FUNCTIONS ++ within kinds.NAMES_ABOVE_FUNCTIONS) && true) ≡ true
 
 abbrev IsName : ℕ → Type 0
-IsName k = (has k ((20, 79) ∷ []) && true) ≡ true
+IsName k = (has k (within kinds.NAMES) && true) ≡ true
 
 plain_low : (k : ℕ) → 20 ≤ k → k ≤ 34 → IsPlain k
 plain_low k a b = rw (le-leb 20 k a, le-leb k 34 b) refl
@@ -236,7 +240,7 @@ function_func k h = go (k == 35) refl
     go true e = let b = from_range 36 42 k h in absurd (grind (arith, nat_tests, e, b.0))
     go false e = ap (λ m. if m then func.Count else func_of k) (sym e)
 
-split_func : (k : ℕ) → (has k ((35, 42) ∷ []) && true) ≡ true → IsCount k ⊎ IsFunction k
+split_func : (k : ℕ) → (has k (within kinds.FUNCTIONS) && true) ≡ true → IsCount k ⊎ IsFunction k
 split_func k h = go (nat_le k 35) refl
   where
     bounds : (35 ≤ k) × (k ≤ 42)
@@ -246,56 +250,56 @@ split_func k h = go (nat_le k 35) refl
     go true e = inl (in_range 35 35 k bounds.0 (leb-true k 35 e))
     go false e = inr (in_range 36 42 k (above k 35 e) bounds.1)
 
-either_func : (k : ℕ) → IsCount k ⊎ IsFunction k → (has k ((35, 42) ∷ []) && true) ≡ true
+either_func : (k : ℕ) → IsCount k ⊎ IsFunction k → (has k (within kinds.FUNCTIONS) && true) ≡ true
 either_func k (inl h) = let b = from_range 35 35 k h in in_range 35 42 k b.0 (omega (arith, b.1))
 either_func k (inr h) = let b = from_range 36 42 k h in in_range 35 42 k (omega (arith, b.0)) b.1
 
 -- things of a select list
-thing_in : {E : Type 0} → Into (thing {E = E}) written_thing
-unfolding thing count_thing counted function_thing named_thing written_thing
-thing_in {E} = record { into = go }
+selected_in : {E : Type 0} → Into (selected {E = E}) written_selected
+unfolding selected count_item count_argument function_item named_item written_selected
+selected_in {E} = record { into = go }
   where
-    of_count : (e : E) (ts : List Lexeme) (a : ItemKind) → Derives e (count_thing {E = E}) ts a → Derives e (written_thing {E = E}) ts a
+    of_count : (e : E) (ts : List Lexeme) (a : ItemKind) → Derives e (count_item {E = E}) ts a → Derives e (written_selected {E = E}) ts a
     of_count e ts a (x, y, w, m, parts, (t, is, fit, named), inr (none, given), v) =
-        inl (w, (t, parts ∙ ap (λ u. u ++ y) is ∙ ap (λ u. t ∷ u) none, count_name t.kind fit, named), v ∙ ap (counted_or w) given)
+        inl (w, (t, parts ∙ ap (λ u. u ++ y) is ∙ ap (λ u. t ∷ u) none, count_name t.kind fit, named), v ∙ ap (count_or_name w) given)
     of_count e ts a (x, y, w, m, parts, d, inl (what, (p, q, u, other, cut, opens, (r, s, last, o, more, inl (star, f, one), closes, three), two), given), v) =
-        inr (inr (inr (inr (inl (x, y, w, what, parts, d, (p, q, u, other, cut, opens, (r, s, last, o, more, (star, f, one), closes, three), two), v ∙ ap (counted_or w) given)))))
+        inr (inr (inr (inr (inl (x, y, w, what, parts, d, (p, q, u, other, cut, opens, (r, s, last, o, more, (star, f, one), closes, three), two), v ∙ ap (count_or_name w) given)))))
     of_count e ts a (x, y, w, m, parts, (t, is, fit, named), inl (what, (p, q, u, other, cut, opens, (r, s, last, o, more, inr (n, f, one), closes, three), two), given), v) =
-        inr (inr (inr (inr (inr (x, y, func.Count, n, parts, (t, is, either_func t.kind (inl fit), count_func t.kind fit), (p, q, u, n, cut, opens, (r, s, n, o, more, f, closes, refl), refl), v ∙ ap (counted_or w) given ∙ two ∙ three ∙ one)))))
+        inr (inr (inr (inr (inr (x, y, func.Count, n, parts, (t, is, either_func t.kind (inl fit), count_func t.kind fit), (p, q, u, n, cut, opens, (r, s, n, o, more, f, closes, refl), refl), v ∙ ap (count_or_name w) given ∙ two ∙ three ∙ one)))))
 
-    of_function : (e : E) (ts : List Lexeme) (a : ItemKind) → Derives e (function_thing {E = E}) ts a → Derives e (written_thing {E = E}) ts a
+    of_function : (e : E) (ts : List Lexeme) (a : ItemKind) → Derives e (function_item {E = E}) ts a → Derives e (written_selected {E = E}) ts a
     of_function e ts a (x, y, f, m, parts, (t, is, fit, named), inr (none, given), v) =
         inl (word_of t.token, (t, parts ∙ ap (λ u. u ++ y) is ∙ ap (λ u. t ∷ u) none, function_name t.kind fit, refl), v ∙ ap (applied f) given ∙ ap (λ (g : Func × List ℕ). item_kind.Col g.1) named)
     of_function e ts a (x, y, f, m, parts, (t, is, fit, named), inl (n, d, given), v) =
         inr (inr (inr (inr (inr (x, y, func_of t.kind, n, parts, (t, is, either_func t.kind (inr fit), function_func t.kind fit), d, v ∙ ap (applied f) given ∙ ap (λ (g : Func × List ℕ). item_kind.Fun g.0 n) named)))))
 
-    of_named : (e : E) (ts : List Lexeme) (a : ItemKind) → Derives e (named_thing {E = E}) ts a → Derives e (written_thing {E = E}) ts a
+    of_named : (e : E) (ts : List Lexeme) (a : ItemKind) → Derives e (named_item {E = E}) ts a → Derives e (written_selected {E = E}) ts a
     of_named e ts a (inl d) = inr (inl d)
     of_named e ts a (inr (inl d)) = inr (inr (inl d))
     of_named e ts a (inr (inr (inl d))) = inr (inr (inr (inl d)))
     of_named e ts a (inr (inr (inr (n, (t, is, fit, named), v)))) = inl (n, (t, is, plain_name_name t.kind fit, named), v)
 
-    go : (e : E) (ts : List Lexeme) (a : ItemKind) → Derives e (thing {E = E}) ts a → Derives e (written_thing {E = E}) ts a
+    go : (e : E) (ts : List Lexeme) (a : ItemKind) → Derives e (selected {E = E}) ts a → Derives e (written_selected {E = E}) ts a
     go e ts a (inl d) = of_count e ts a d
     go e ts a (inr (inl d)) = of_function e ts a d
     go e ts a (inr (inr d)) = of_named e ts a d
 
-thing_out : {E : Type 0} → Into (written_thing {E = E}) thing
-unfolding thing count_thing counted function_thing named_thing written_thing
-thing_out {E} = record { into = go }
+selected_out : {E : Type 0} → Into (written_selected {E = E}) selected
+unfolding selected count_item count_argument function_item named_item written_selected
+selected_out {E} = record { into = go }
   where
-    of_name : (e : E) (ts : List Lexeme) (a : ItemKind) (n : List ℕ) (t : Lexeme) → ts ≡ t ∷ [] → n ≡ word_of t.token → a ≡ item_kind.Col n → IsCount t.kind ⊎ (IsFunction t.kind ⊎ IsPlain t.kind) → Derives e (thing {E = E}) ts a
+    of_name : (e : E) (ts : List Lexeme) (a : ItemKind) (n : List ℕ) (t : Lexeme) → ts ≡ t ∷ [] → n ≡ word_of t.token → a ≡ item_kind.Col n → IsCount t.kind ⊎ (IsFunction t.kind ⊎ IsPlain t.kind) → Derives e (selected {E = E}) ts a
     of_name e ts a n t is named v (inl fit) = inl (ts, [], n, None, sym (append-nil ts), (t, is, fit, named), inr (refl, refl), v)
     of_name e ts a n t is named v (inr (inl fit)) = inr (inl (ts, [], (func_of t.kind, word_of t.token), None, sym (append-nil ts), (t, is, fit, refl), inr (refl, refl), v ∙ ap item_kind.Col named))
     of_name e ts a n t is named v (inr (inr fit)) = inr (inr (inr (inr (inr (n, (t, is, fit, named), v)))))
 
-    of_func : (e : E) (ts x y : List Lexeme) (a : ItemKind) (f : Func) (n : List ℕ) (t : Lexeme) → ts ≡ x ++ y → x ≡ t ∷ [] → f ≡ func_named t.kind → Derives e (inside {E = E} name) y n → a ≡ item_kind.Fun f n → IsCount t.kind ⊎ IsFunction t.kind → Derives e (thing {E = E}) ts a
+    of_func : (e : E) (ts x y : List Lexeme) (a : ItemKind) (f : Func) (n : List ℕ) (t : Lexeme) → ts ≡ x ++ y → x ≡ t ∷ [] → f ≡ func_named t.kind → Derives e (inside {E = E} name) y n → a ≡ item_kind.Fun f n → IsCount t.kind ⊎ IsFunction t.kind → Derives e (selected {E = E}) ts a
     of_func e ts x y a f n t parts is named (p, q, u, m, cut, opens, (r, s, k, o, more, d, closes, three), two) v (inl fit) =
         inl (x, y, word_of t.token, Some a, parts, (t, is, fit, refl), inl (a, (p, q, u, a, cut, opens, (r, s, a, o, more, inr (n, subst (λ w. Derives e (name {E = E}) r w) (sym (two ∙ three)) d, v ∙ ap (λ g. item_kind.Fun g n) (named ∙ sym (count_func t.kind fit))), closes, refl), refl), refl), refl)
     of_func e ts x y a f n t parts is named d v (inr fit) =
         inr (inl (x, y, (func_of t.kind, word_of t.token), Some n, parts, (t, is, fit, refl), inl (n, d, refl), v ∙ ap (λ g. item_kind.Fun g n) (named ∙ sym (function_func t.kind fit))))
 
-    go : (e : E) (ts : List Lexeme) (a : ItemKind) → Derives e (written_thing {E = E}) ts a → Derives e (thing {E = E}) ts a
+    go : (e : E) (ts : List Lexeme) (a : ItemKind) → Derives e (written_selected {E = E}) ts a → Derives e (selected {E = E}) ts a
     go e ts a (inl (n, (t, is, fit, named), v)) = of_name e ts a n t is named v (split_name t.kind fit)
     go e ts a (inr (inl d)) = inr (inr (inl d))
     go e ts a (inr (inr (inl d))) = inr (inr (inr (inl d)))
@@ -306,21 +310,21 @@ thing_out {E} = record { into = go }
 
 -- select lists
 items_in : {E : Type 0} → Into (items {E = E}) written_items
-unfolding items item_list further_item item written_items written_item
-items_in = in_either (kept _) (in_valued (in_listed (in_both thing_in (kept _)) (in_second (in_both thing_in (kept _)))))
+unfolding items select_items select_item written_items written_item
+items_in = in_either (kept _) (in_valued (in_comma_list (in_both selected_in (kept _))))
 
 items_out : {E : Type 0} → Into (written_items {E = E}) items
-unfolding items item_list further_item item written_items written_item
-items_out = in_either (kept _) (in_valued (in_listed (in_both thing_out (kept _)) (in_second (in_both thing_out (kept _)))))
+unfolding items select_items select_item written_items written_item
+items_out = in_either (kept _) (in_valued (in_comma_list (in_both selected_out (kept _))))
 
 -- queries
 clauses_in : {E : Type 0} → Into (clauses {E = E}) written_clauses
-unfolding clauses where_part partition_part part_list further_part written_clauses
-clauses_in = in_both (in_maybe (in_second conds_in)) (in_both (in_maybe (in_second (in_second (in_listed part_in (in_second part_in))))) (kept _))
+unfolding clauses where_part partition_part part_list written_clauses
+clauses_in = in_both (in_maybe (in_second conds_in)) (in_both (in_maybe (in_second (in_second (in_comma_list part_in)))) (kept _))
 
 clauses_out : {E : Type 0} → Into (written_clauses {E = E}) clauses
-unfolding clauses where_part partition_part part_list further_part written_clauses
-clauses_out = in_both (in_maybe (in_second conds_out)) (in_both (in_maybe (in_second (in_second (in_listed part_out (in_second part_out))))) (kept _))
+unfolding clauses where_part partition_part part_list written_clauses
+clauses_out = in_both (in_maybe (in_second conds_out)) (in_both (in_maybe (in_second (in_second (in_comma_list part_out)))) (kept _))
 
 pub query_in : {E : Type 0} → Into (query {E = E}) written_query
 unfolding query written_query

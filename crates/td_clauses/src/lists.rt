@@ -1,67 +1,80 @@
 //! Select lists and partitions.
-ghost use Rattle.std.specs.Prelude.{◌≡◌, ◌++◌, OnOk, IfOk, [], ◌∷◌};
-ghost use Rattle.td_grammar.specs.Grammar.{read, begun};
-ghost use Rattle.td_grammar.specs.Grammar.{starts as starts_with};
+ghost use Rattle.std.specs.Prelude.{◌≡◌, ◌++◌, []};
+ghost use Rattle.td_grammar.specs.Grammar.{read};
 ghost use Rattle.td_grammar.specs.Gives.{Gives};
-ghost use Rattle.td_clauses.specs.Productions.{count_thing as prod_count_thing, counted as prod_counted, function_thing as prod_function_thing, function_word as prod_function_word, further_item as prod_further_item, further_part as prod_further_part, item as prod_item, item_list as prod_item_list, items as prod_items, named_thing as prod_named_thing, part as prod_part, part_list as prod_part_list, plain_name as prod_plain_name, thing as prod_thing};
+ghost use Rattle.td_clauses.specs.Productions.{count_item as prod_count_item, count_argument as prod_count_argument, function_item as prod_function_item, function_word as prod_function_word, select_item as prod_select_item, items as prod_items, named_item as prod_named_item, part as prod_part, plain_name as prod_plain_name, selected as prod_selected};
 ghost use Rattle.td_grammar.specs.Grammar.{has};
-ghost use Rattle.td_clauses.specs.Productions.{func_of, words};
+ghost use Rattle.td_clauses.specs.Productions.{func_of};
+ghost use Rattle.td_clauses.specs.Productions.{count_word as prod_count_word};
+ghost use Rattle.td_grammar.specs.declared.kinds.TheConstants.{NAMES_BELOW_FUNCTIONS, NAMES_ABOVE_FUNCTIONS};
+ghost use Rattle.td_grammar.specs.Grammar.{within};
 
 use std::alloc::Global;
-use td_grammar::{Fault, Lexeme, kinds, name, next, sign, starts, word_of};
+use td_grammar::{
+    Fault, KindRange, Lexeme, Listed, TokenKind, comma_list, keyword, kinds, name, starts,
+    starts_in, token_in, token_of, word_of,
+};
 use td_layer::{Name, Seq};
 use td_model::{Func, Item, ItemKind, PartBy};
 
-// The word that is next, of one of these kinds.
-#[tactic(auto, using(td_grammar::proofs::Forms::one_value))]
-fn word(alloc: Global, tokens: &[Lexeme], low: u8, high: u8) -> Result<(Name, &[Lexeme]), Fault>
-    ensures { Gives (λ x. (x.0, x.1.now)) result (words low high tokens.now) }
+// ( * ) | ( name ), behind COUNT
+#[tactic(auto, using(td_grammar::proofs::Forms::value_itself), unfolding(crate::specs::Productions::count_argument))]
+fn count_argument(alloc: Global, tokens: &[Lexeme]) -> Result<(ItemKind, &[Lexeme]), Fault>
+    ensures { Gives (λ x. (x.0, x.1.now)) result (read (tt {0}) prod_count_argument tokens.now) }
 {
-    let (token, rest) = next(tokens, low, high)?;
-    let text = word_of(alloc, &token.token)?;
-    Ok((text, rest))
-}
-
-#[tactic(auto, using(td_grammar::proofs::Forms::value_itself), unfolding(crate::specs::Productions::counted))]
-fn counted(alloc: Global, tokens: &[Lexeme]) -> Result<(ItemKind, &[Lexeme]), Fault>
-    ensures { Gives (λ x. (x.0, x.1.now)) result (read (tt {0}) prod_counted tokens.now) }
-{
-    let rest = sign(tokens, kinds::OPEN_PAREN)?;
-    if starts(rest, kinds::STAR, kinds::STAR) {
-        let rest = sign(rest, kinds::STAR)?;
-        let rest = sign(rest, kinds::CLOSE_PAREN)?;
+    let rest = keyword(tokens, kinds::OPEN_PAREN)?;
+    if starts(rest, kinds::STAR) {
+        let rest = keyword(rest, kinds::STAR)?;
+        let rest = keyword(rest, kinds::CLOSE_PAREN)?;
         Ok((ItemKind::CountAll, rest))
     } else {
         let (name, rest) = name(alloc, rest)?;
-        let rest = sign(rest, kinds::CLOSE_PAREN)?;
+        let rest = keyword(rest, kinds::CLOSE_PAREN)?;
         Ok((ItemKind::Fun(Func::Count, name), rest))
     }
 }
 
-#[tactic(auto, using(td_grammar::proofs::Forms::value_itself, crate::proofs::Starts::starts_counted), unfolding(crate::specs::Productions::count_thing))]
-fn count_thing(alloc: Global, tokens: &[Lexeme]) -> Result<(ItemKind, &[Lexeme]), Fault>
-    ensures { Gives (λ x. (x.0, x.1.now)) result (read (tt {0}) prod_count_thing tokens.now) }
+// COUNT
+#[tactic(auto, using(td_grammar::proofs::Forms::one_value))]
+fn count_word(alloc: Global, tokens: &[Lexeme]) -> Result<(Name, &[Lexeme]), Fault>
+    ensures { Gives (λ x. (x.0, x.1.now)) result (read (tt {0}) prod_count_word tokens.now) }
 {
-    let (word, rest) = word(alloc, tokens, kinds::COUNT, kinds::COUNT)?;
-    if starts(rest, kinds::OPEN_PAREN, kinds::OPEN_PAREN) {
-        let (what, rest) = counted(alloc, rest)?;
-        Ok((what, rest))
+    let (token, rest) = token_of(tokens, kinds::COUNT)?;
+    let text = word_of(alloc, &token.token)?;
+    Ok((text, rest))
+}
+
+// COUNT [ ( * ) | ( name ) ]; the word alone is a name
+#[tactic(auto, using(td_grammar::proofs::Forms::value_itself, crate::proofs::Starts::starts_count_argument), unfolding(crate::specs::Productions::count_item))]
+fn count_item(alloc: Global, tokens: &[Lexeme]) -> Result<(ItemKind, &[Lexeme]), Fault>
+    ensures { Gives (λ x. (x.0, x.1.now)) result (read (tt {0}) prod_count_item tokens.now) }
+{
+    let (word, rest) = count_word(alloc, tokens)?;
+    if starts(rest, kinds::OPEN_PAREN) {
+        count_argument(alloc, rest)
     } else {
         Ok((ItemKind::Col(word), rest))
     }
 }
 
-fn func_of(kind: u8) -> Func
+// The function of a word's kind.
+fn func_of(kind: TokenKind) -> Func
     ensures { result ≡ func_of kind }
 {
-    match kind {
-        kinds::SUM => Func::Sum,
-        kinds::MIN => Func::Min,
-        kinds::MAX => Func::Max,
-        kinds::AVG => Func::Avg,
-        kinds::FIRST => Func::First,
-        kinds::LAST => Func::Last,
-        _ => Func::Spread,
+    if kind == kinds::SUM {
+        Func::Sum
+    } else if kind == kinds::MIN {
+        Func::Min
+    } else if kind == kinds::MAX {
+        Func::Max
+    } else if kind == kinds::AVG {
+        Func::Avg
+    } else if kind == kinds::FIRST {
+        Func::First
+    } else if kind == kinds::LAST {
+        Func::Last
+    } else {
+        Func::Spread
     }
 }
 
@@ -70,26 +83,28 @@ fn func_of(kind: u8) -> Func
 fn function_word(alloc: Global, tokens: &[Lexeme]) -> Result<((Func, Name), &[Lexeme]), Fault>
     ensures { Gives (λ x. (x.0, x.1.now)) result (read (tt {0}) prod_function_word tokens.now) }
 {
-    let (token, rest) = next(tokens, kinds::SUM, kinds::SPREAD)?;
+    let (token, rest) = token_in(tokens, kinds::COLUMN_FUNCTIONS)?;
     let text = word_of(alloc, &token.token)?;
     Ok(((func_of(token.kind), text), rest))
 }
 
-#[tactic(auto, using(td_grammar::proofs::Forms::value_itself), unfolding(crate::specs::Productions::function_thing))]
-fn function_thing(alloc: Global, tokens: &[Lexeme]) -> Result<(ItemKind, &[Lexeme]), Fault>
-    ensures { Gives (λ x. (x.0, x.1.now)) result (read (tt {0}) prod_function_thing tokens.now) }
+// func [ ( name ) ] of the other functions; the word alone is a name
+#[tactic(auto, using(td_grammar::proofs::Forms::value_itself), unfolding(crate::specs::Productions::function_item))]
+fn function_item(alloc: Global, tokens: &[Lexeme]) -> Result<(ItemKind, &[Lexeme]), Fault>
+    ensures { Gives (λ x. (x.0, x.1.now)) result (read (tt {0}) prod_function_item tokens.now) }
 {
     let ((func, word), rest) = function_word(alloc, tokens)?;
-    if starts(rest, kinds::OPEN_PAREN, kinds::OPEN_PAREN) {
-        let rest = sign(rest, kinds::OPEN_PAREN)?;
+    if starts(rest, kinds::OPEN_PAREN) {
+        let rest = keyword(rest, kinds::OPEN_PAREN)?;
         let (name, rest) = name(alloc, rest)?;
-        let rest = sign(rest, kinds::CLOSE_PAREN)?;
+        let rest = keyword(rest, kinds::CLOSE_PAREN)?;
         Ok((ItemKind::Fun(func, name), rest))
     } else {
         Ok((ItemKind::Col(word), rest))
     }
 }
 
+// name, where it is no function's word
 #[tactic(auto, unfolding(crate::specs::Productions::plain_name))]
 fn plain_name(alloc: Global, tokens: &[Lexeme]) -> Result<(Name, &[Lexeme]), Fault>
     ensures { Gives (λ x. (x.0, x.1.now)) result (read (tt {0}) prod_plain_name tokens.now) }
@@ -109,25 +124,33 @@ fn plain_name(alloc: Global, tokens: &[Lexeme]) -> Result<(Name, &[Lexeme]), Fau
 
 // Whether a word of this kind is a name and no function.
 #[tactic(auto, using(std::proofs::lemmas::Bool::Decides::nat_tests))]
-fn is_plain(kind: u8) -> bool
-    ensures { result ≡ has kind ((20, 34) ∷ (43, 79) ∷ []) }
+fn is_plain(kind: TokenKind) -> bool
+    ensures { result ≡ has kind (within NAMES_BELOW_FUNCTIONS ++ within NAMES_ABOVE_FUNCTIONS) }
 {
-    kinds::PLAIN_WORD <= kind && kind < kinds::COUNT
-        || kinds::SPREAD < kind && kind <= kinds::LAST_NAME
+    is_in(kind, kinds::NAMES_BELOW_FUNCTIONS) || is_in(kind, kinds::NAMES_ABOVE_FUNCTIONS)
 }
 
-#[tactic(auto, using(td_grammar::proofs::Forms::value_itself), unfolding(crate::specs::Productions::named_thing))]
-fn named_thing(alloc: Global, tokens: &[Lexeme]) -> Result<(ItemKind, &[Lexeme]), Fault>
-    ensures { Gives (λ x. (x.0, x.1.now)) result (read (tt {0}) prod_named_thing tokens.now) }
+// Whether a kind is in a range.
+#[tactic(auto, using(std::proofs::lemmas::Bool::Decides::nat_tests))]
+fn is_in(kind: TokenKind, range: KindRange) -> bool
+    ensures { result ≡ has kind (within range) }
 {
-    if starts(tokens, kinds::TBNAME, kinds::TBNAME) {
-        let rest = sign(tokens, kinds::TBNAME)?;
+    range.low <= kind && kind <= range.high
+}
+
+// TBNAME | _WSTART | _WEND | name
+#[tactic(auto, using(td_grammar::proofs::Forms::value_itself), unfolding(crate::specs::Productions::named_item))]
+fn named_item(alloc: Global, tokens: &[Lexeme]) -> Result<(ItemKind, &[Lexeme]), Fault>
+    ensures { Gives (λ x. (x.0, x.1.now)) result (read (tt {0}) prod_named_item tokens.now) }
+{
+    if starts(tokens, kinds::TBNAME) {
+        let rest = keyword(tokens, kinds::TBNAME)?;
         Ok((ItemKind::TbName, rest))
-    } else if starts(tokens, kinds::WSTART, kinds::WSTART) {
-        let rest = sign(tokens, kinds::WSTART)?;
+    } else if starts(tokens, kinds::WSTART) {
+        let rest = keyword(tokens, kinds::WSTART)?;
         Ok((ItemKind::WStart, rest))
-    } else if starts(tokens, kinds::WEND, kinds::WEND) {
-        let rest = sign(tokens, kinds::WEND)?;
+    } else if starts(tokens, kinds::WEND) {
+        let rest = keyword(tokens, kinds::WEND)?;
         Ok((ItemKind::WEnd, rest))
     } else {
         let (made, rest) = plain_name(alloc, tokens)?;
@@ -135,29 +158,28 @@ fn named_thing(alloc: Global, tokens: &[Lexeme]) -> Result<(ItemKind, &[Lexeme])
     }
 }
 
-#[tactic(auto, using(td_grammar::proofs::Forms::value_itself, crate::proofs::Starts::starts_count_thing, crate::proofs::Starts::starts_function_thing), unfolding(crate::specs::Productions::thing))]
-fn thing(alloc: Global, tokens: &[Lexeme]) -> Result<(ItemKind, &[Lexeme]), Fault>
-    ensures { Gives (λ x. (x.0, x.1.now)) result (read (tt {0}) prod_thing tokens.now) }
+// name | TBNAME | _WSTART | _WEND | COUNT ( * ) | func ( name )
+#[tactic(auto, using(td_grammar::proofs::Forms::value_itself, crate::proofs::Starts::starts_count_item, crate::proofs::Starts::starts_function_item), unfolding(crate::specs::Productions::selected))]
+fn selected(alloc: Global, tokens: &[Lexeme]) -> Result<(ItemKind, &[Lexeme]), Fault>
+    ensures { Gives (λ x. (x.0, x.1.now)) result (read (tt {0}) prod_selected tokens.now) }
 {
-    if starts(tokens, kinds::COUNT, kinds::COUNT) {
-        let (made, rest) = count_thing(alloc, tokens)?;
-        Ok((made, rest))
-    } else if starts(tokens, kinds::SUM, kinds::SPREAD) {
-        let (made, rest) = function_thing(alloc, tokens)?;
-        Ok((made, rest))
+    if starts(tokens, kinds::COUNT) {
+        count_item(alloc, tokens)
+    } else if starts_in(tokens, kinds::COLUMN_FUNCTIONS) {
+        function_item(alloc, tokens)
     } else {
-        let (made, rest) = named_thing(alloc, tokens)?;
-        Ok((made, rest))
+        named_item(alloc, tokens)
     }
 }
 
-#[tactic(auto, using(td_grammar::proofs::Forms::value_itself), unfolding(crate::specs::Productions::item))]
-fn item(alloc: Global, tokens: &[Lexeme]) -> Result<(Item, &[Lexeme]), Fault>
-    ensures { Gives (λ x. (x.0, x.1.now)) result (read (tt {0}) prod_item tokens.now) }
+// selected [ AS name ]
+#[tactic(auto, using(td_grammar::proofs::Forms::value_itself), unfolding(crate::specs::Productions::select_item))]
+fn select_item(alloc: Global, tokens: &[Lexeme]) -> Result<(Item, &[Lexeme]), Fault>
+    ensures { Gives (λ x. (x.0, x.1.now)) result (read (tt {0}) prod_select_item tokens.now) }
 {
-    let (what, rest) = thing(alloc, tokens)?;
-    if starts(rest, kinds::AS, kinds::AS) {
-        let rest = sign(rest, kinds::AS)?;
+    let (what, rest) = selected(alloc, tokens)?;
+    if starts(rest, kinds::AS) {
+        let rest = keyword(rest, kinds::AS)?;
         let (alias, rest) = name(alloc, rest)?;
         let alias = Some(alias);
         Ok((Item { what, alias }, rest))
@@ -167,52 +189,30 @@ fn item(alloc: Global, tokens: &[Lexeme]) -> Result<(Item, &[Lexeme]), Fault>
     }
 }
 
-#[tactic(auto, using(td_grammar::proofs::Forms::value_itself), unfolding(crate::specs::Productions::further_item))]
-fn further_item(alloc: Global, tokens: &[Lexeme]) -> Result<(Item, &[Lexeme]), Fault>
-    ensures { Gives (λ x. (x.0, x.1.now)) result (read (tt {0}) prod_further_item tokens.now) }
-{
-    let rest = sign(tokens, kinds::COMMA)?;
-    let (item, rest) = item(alloc, rest)?;
-    Ok((item, rest))
-}
-
-fn item_list(alloc: Global, tokens: &[Lexeme]) -> Result<(Seq<Item>, &[Lexeme]), Fault>
-    ensures { Gives (λ x. (x.0, x.1.now)) result (read (tt {0}) prod_item_list tokens.now) }
-{
-    let (head, after) = item(alloc, tokens)?;
-    let mut all = Vec::new(alloc);
-    all.push(head)?;
-    let mut rest = after;
-    while starts(rest, kinds::COMMA, kinds::COMMA) {
-        let (item, after) = further_item(alloc, rest)?;
-        all.push(item)?;
-        rest = after;
-    }
-    Ok((Seq::from_vec(alloc, all), rest))
-}
-
-#[tactic(auto, using(td_grammar::proofs::Forms::value_itself), unfolding(crate::specs::Productions::items))]
+// * | select_item { , select_item }
+#[tactic(auto, using(td_grammar::proofs::Forms::value_itself), unfolding(crate::specs::Productions::items, crate::specs::Productions::select_items))]
 pub(crate) fn items(
     alloc: Global,
     tokens: &[Lexeme],
 ) -> Result<((bool, Seq<Item>), &[Lexeme]), Fault>
     ensures { Gives (λ x. (x.0, x.1.now)) result (read (tt {0}) prod_items tokens.now) }
 {
-    if starts(tokens, kinds::STAR, kinds::STAR) {
-        let rest = sign(tokens, kinds::STAR)?;
+    if starts(tokens, kinds::STAR) {
+        let rest = keyword(tokens, kinds::STAR)?;
         Ok(((true, Seq::new(alloc)), rest))
     } else {
-        let (all, rest) = item_list(alloc, tokens)?;
+        let (all, rest) = comma_list::<SelectItems>(alloc, tokens)?;
         Ok(((false, all), rest))
     }
 }
 
+// name | TBNAME
 #[tactic(auto, using(td_grammar::proofs::Forms::value_itself), unfolding(crate::specs::Productions::part))]
 pub(crate) fn part(alloc: Global, tokens: &[Lexeme]) -> Result<(PartBy, &[Lexeme]), Fault>
     ensures { Gives (λ x. (x.0, x.1.now)) result (read (tt {0}) prod_part tokens.now) }
 {
-    if starts(tokens, kinds::TBNAME, kinds::TBNAME) {
-        let rest = sign(tokens, kinds::TBNAME)?;
+    if starts(tokens, kinds::TBNAME) {
+        let rest = keyword(tokens, kinds::TBNAME)?;
         Ok((PartBy::TbName, rest))
     } else {
         let (made, rest) = name(alloc, tokens)?;
@@ -220,26 +220,36 @@ pub(crate) fn part(alloc: Global, tokens: &[Lexeme]) -> Result<(PartBy, &[Lexeme
     }
 }
 
-#[tactic(auto, using(td_grammar::proofs::Forms::value_itself), unfolding(crate::specs::Productions::further_part))]
-fn further_part(alloc: Global, tokens: &[Lexeme]) -> Result<(PartBy, &[Lexeme]), Fault>
-    ensures { Gives (λ x. (x.0, x.1.now)) result (read (tt {0}) prod_further_part tokens.now) }
-{
-    let rest = sign(tokens, kinds::COMMA)?;
-    let (item, rest) = part(alloc, rest)?;
-    Ok((item, rest))
+// Items of a select list.
+struct SelectItems;
+
+impl Listed for SelectItems {
+    ghost use Rattle.td_clauses.specs.Productions.{select_item, select_item_good};
+
+    type Item = Item;
+
+    ghost production = { select_item };
+
+    ghost looks_one_ahead = { select_item_good };
+
+    fn read_item(alloc: Global, tokens: &[Lexeme]) -> Result<(Item, &[Lexeme]), Fault> {
+        select_item(alloc, tokens)
+    }
 }
 
-pub(crate) fn part_list(alloc: Global, tokens: &[Lexeme]) -> Result<(Seq<PartBy>, &[Lexeme]), Fault>
-    ensures { Gives (λ x. (x.0, x.1.now)) result (read (tt {0}) prod_part_list tokens.now) }
-{
-    let (head, after) = part(alloc, tokens)?;
-    let mut all = Vec::new(alloc);
-    all.push(head)?;
-    let mut rest = after;
-    while starts(rest, kinds::COMMA, kinds::COMMA) {
-        let (item, after) = further_part(alloc, rest)?;
-        all.push(item)?;
-        rest = after;
+// Columns and tags of a partition.
+pub(crate) struct PartitionColumns;
+
+impl Listed for PartitionColumns {
+    ghost use Rattle.td_clauses.specs.Productions.{part, part_good};
+
+    type Item = PartBy;
+
+    ghost production = { part };
+
+    ghost looks_one_ahead = { part_good };
+
+    fn read_item(alloc: Global, tokens: &[Lexeme]) -> Result<(PartBy, &[Lexeme]), Fault> {
+        part(alloc, tokens)
     }
-    Ok((Seq::from_vec(alloc, all), rest))
 }

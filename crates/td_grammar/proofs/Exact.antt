@@ -1,13 +1,11 @@
 -- Reading is exact.
-use Rattle.std.proofs.Common.{◌≡◌, ℕ, zero, suc, ◌≤◌, Bool, true, false, cond, ◌&&◌, ◌||◌, not, nat_le, List, [], ◌∷◌, ◌++◌, length, Result, Ok, Err, refl, sym, ap, subst, ◌∙◌, arith, append_assoc, ◌⊎◌, inl, inr}
-use Rattle.std.proofs.lemmas.List.{append-nil, length-append}
+use Rattle.std.proofs.Common.{◌≡◌, ℕ, suc, ◌≤◌, Bool, true, false, cond, ◌&&◌, not, List, [], ◌∷◌, ◌++◌, length, Ok, Err, refl, sym, ap, subst, ◌∙◌, arith, append_assoc, ◌⊎◌, inl, inr}
 use Rattle.std.proofs.lemmas.Bool.{and_parts}
-use Rattle.std.proofs.lemmas.Bool.Decides.{nat_tests}
 use Rattle.td_grammar.specs.declared.lexemes.Lexeme.{Lexeme}
-use Rattle.td_grammar.specs.Grammar.{Kinds, has, apart, fits, begun, Begins, Ends, FailsAt, Passes, Reading, ◌>>=◌, as_value, starts, one, looped, G, token, valued, both, under, maybe, either, loop, Derives, nullable, first, after, good, read, whole}
-use Rattle.td_grammar.proofs.Tells.{real_append, peek, Took, Stopped, Told, Tells, Some_text, told_one, told_map, told_then, told_nothing, told_either}
-use Rattle.td_grammar.proofs.Loops.{Solid, Loops, loops, turn, told_loop, loop_turn, consumes}
-use Rattle.td_grammar.proofs.KindSets.{or_none, or_first, or_second, has_append, starts_append, starts_none, apart_from}
+use Rattle.td_grammar.specs.Grammar.{has, apart, fits, begun, Passes, Reading, ◌>>=◌, as_value, starts, one, G, token, valued, both, under, maybe, either, loop, Derives, nullable, first, after, good, read}
+use Rattle.td_grammar.proofs.Tells.{real_append, Tells, Some_text, told_one, told_map, told_then, told_nothing, told_either}
+use Rattle.td_grammar.proofs.Loops.{Solid, loops, told_loop, loop_turn, consumes}
+use Rattle.td_grammar.proofs.KindSets.{or_first, or_second, has_append, starts_none, apart_from}
 
 -- each grammar has a text
 pub text_of : {E A : Type 0} (e : E) (g : G E A) → Some_text (Derives e g)

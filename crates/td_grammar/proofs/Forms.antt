@@ -1,12 +1,12 @@
 -- Forms that the parser's functions meet.
-use Rattle.std.proofs.Common.{◌≡◌, ℕ, zero, suc, ◌≤◌, ◌<◌, Bool, true, false, cond, ◌&&◌, not, List, [], ◌∷◌, ◌++◌, length, Result, Ok, Err, refl, sym, ap, ◌∙◌, arith}
-use Rattle.std.proofs.lemmas.Bool.{and_parts}
+use Rattle.std.proofs.Common.{◌≡◌, ℕ, zero, suc, ◌<◌, Bool, true, false, cond, ◌&&◌, not, List, [], ◌∷◌, ◌++◌, length, Result, Ok, Err, refl, sym, ap, ◌∙◌}
 use Rattle.td_grammar.specs.declared.lexemes.Lexeme.{Lexeme}
 use Rattle.td_grammar.specs.declared.fault.Fault.{Fault}
 use Rattle.td_grammar.specs.declared.fault.Fault.TheVariants.{NoMemory, At}
 use Rattle.td_grammar.specs.Gives.{Fails}
-use Rattle.td_grammar.specs.Grammar.{Kinds, has, fits, Reading, ◌>>=◌, as_value, one, starts, begun, G, good, nullable, first, read, looped}
-use Rattle.td_grammar.specs.Words.{anything, push, listed, list_from, states_from}
+use Rattle.td_grammar.specs.Grammar.{Kinds, only, has, fits, Reading, ◌>>=◌, as_value, one, starts, begun, G, good, nullable, first, read, looped}
+use Rattle.td_grammar.specs.declared.kinds.TheConstants.{COMMA}
+use Rattle.td_grammar.specs.Words.{anything, push, listed, list_from, states_from, comma, ◌▷◌, comma_list}
 use Rattle.td_grammar.proofs.Loops.{turn, loop_turn}
 use Rattle.td_grammar.proofs.Exact.{eats_of}
 
@@ -133,3 +133,13 @@ states_of {S} {A} item ok next fine some = record {
 
     go : (s : S) (ts : List Lexeme) → starts (first item) ts ≡ true → begun (ok s) ts ≡ true → states_from item ok next s ts ≡ (read (tt {0}) item ts >>= more s)
     go s ts h i = step s ts ∙ at_true s ts h ∙ ap (λ b. cond b (read (tt {0}) item ts >>= more s) (Err (length ts))) i
+
+-- what a loop over items behind commas goes by
+pub comma_laws : {A : Type 0} (item : G (Unit {0}) A) → good item ≡ true → Lists (comma ▷ item) (only COMMA)
+comma_laws item ok = lists_of (comma ▷ item) (ap (λ b. b && true) ok) refl
+
+pub comma_begins : {A : Type 0} (item : G (Unit {0}) A) (ts : List Lexeme) (a : A) (rest : List Lexeme) → read (tt {0}) item ts ≡ Ok (a, rest) → list_from (comma ▷ item) (a ∷ []) rest ≡ read (tt {0}) (comma_list item) ts
+comma_begins item ts a rest h = list_begins item (comma ▷ item) ts (a, rest) h
+
+pub comma_fails : {A : Type 0} (item : G (Unit {0}) A) (ts : List Lexeme) (n : ℕ) → read (tt {0}) item ts ≡ Err n → read (tt {0}) (comma_list item) ts ≡ Err n
+comma_fails item ts n h = ap (λ r. r >>= λ a. as_value (λ more. a.0 ∷ more) (list_from (comma ▷ item) [] a.1)) h

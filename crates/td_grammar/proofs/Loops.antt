@@ -1,9 +1,9 @@
 -- What a loop has told when it stops.
-use Rattle.std.proofs.Common.{◌≡◌, ℕ, zero, suc, ◌+◌, ◌≤◌, ◌<◌, Bool, true, false, cond, List, [], ◌∷◌, ◌++◌, length, Option, Some, None, Result, Ok, Err, refl, sym, ap, subst, ◌∙◌, arith, append_assoc}
+use Rattle.std.proofs.Common.{◌≡◌, ℕ, zero, suc, ◌≤◌, Bool, true, false, cond, List, [], ◌∷◌, ◌++◌, length, None, Result, Ok, Err, refl, sym, ap, subst, ◌∙◌, arith, append_assoc}
 use Rattle.std.proofs.lemmas.List.{append-nil, length-append}
 use Rattle.td_grammar.specs.declared.lexemes.Lexeme.{Lexeme}
-use Rattle.td_grammar.specs.Grammar.{Kinds, has, begun, Begins, Passes, Reading, ◌>>=◌, starts, looped}
-use Rattle.td_grammar.proofs.Tells.{peek, peek_append, begun_peek, Took, Stopped, Told, Tells}
+use Rattle.td_grammar.specs.Grammar.{Kinds, begun, Begins, Passes, Reading, ◌>>=◌, starts, looped}
+use Rattle.td_grammar.proofs.Tells.{peek, peek_append, begun_peek, Took, Told, Tells}
 
 -- no text is empty
 abbrev pub Solid : {A : Type 0} → (List Lexeme → A → Type 0) → Type 0

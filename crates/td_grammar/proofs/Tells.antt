@@ -1,9 +1,7 @@
 -- What the reader has told when it stops.
-use Rattle.std.proofs.Common.{◌≡◌, ℕ, zero, suc, ◌+◌, ◌≤◌, ◌<◌, Bool, true, false, cond, ◌&&◌, ◌||◌, not, nat_le, nat_lt, List, [], ◌∷◌, ◌++◌, length, Option, Some, None, Result, Ok, Err, IsTrue, ◌⊎◌, inl, inr, refl, sym, ap, subst, ◌∙◌, arith, append_assoc}
-use Rattle.std.proofs.lemmas.List.{append-nil, length-append}
-use Rattle.std.proofs.lemmas.Bool.{and_parts}
+use Rattle.std.proofs.Common.{◌≡◌, ℕ, Bool, true, false, cond, List, [], ◌∷◌, ◌++◌, length, Option, Some, None, Ok, Err, ◌⊎◌, inl, inr, refl, sym, ap, ◌∙◌, append_assoc}
 use Rattle.td_grammar.specs.declared.lexemes.Lexeme.{Lexeme}
-use Rattle.td_grammar.specs.Grammar.{real, all_real, Kinds, has, fits, begun, Begins, Passes, Reading, ◌>>=◌, as_value, starts, one, looped}
+use Rattle.td_grammar.specs.Grammar.{real, all_real, Kinds, begun, Begins, Reading, ◌>>=◌, as_value, starts, one}
 
 abbrev pub peek : List Lexeme → Option Lexeme
 peek [] = None

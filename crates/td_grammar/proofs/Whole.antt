@@ -1,13 +1,12 @@
 -- Reading a whole text: exactly the grammar's values, and exactly the first failure.
-use Rattle.std.proofs.Common.{◌≡◌, ℕ, Bool, true, false, cond, nat_le, List, [], ◌∷◌, ◌++◌, length, Result, Ok, Err, refl, sym, ap, subst, ◌∙◌, arith, append_assoc}
+use Rattle.std.proofs.Common.{◌≡◌, ℕ, true, false, List, [], ◌∷◌, ◌++◌, length, Result, Ok, Err, refl, sym, ap, subst, ◌∙◌, append_assoc}
 use Rattle.std.proofs.lemmas.List.{append-nil}
-use Rattle.std.proofs.lemmas.Bool.Decides.{nat_tests}
 use Rattle.td_grammar.specs.declared.lexemes.Lexeme.{Lexeme}
 use Rattle.td_grammar.specs.declared.fault.Fault.{Fault}
 use Rattle.td_grammar.specs.declared.fault.Fault.TheVariants.{NoMemory, At}
-use Rattle.td_grammar.specs.Gives.{Gives, Fails, Parses}
-use Rattle.td_grammar.specs.Grammar.{Begins, Ends, FailsAt, Reading, ◌>>=◌, starts, G, Derives, after, good, read, whole, Answers}
-use Rattle.td_grammar.proofs.Tells.{peek, Took, Stopped, Told}
+use Rattle.td_grammar.specs.Gives.{Gives, Parses}
+use Rattle.td_grammar.specs.Grammar.{Ends, Reading, starts, G, Derives, after, good, read, whole, Answers}
+use Rattle.td_grammar.proofs.Tells.{peek, Took, Told}
 use Rattle.td_grammar.proofs.Exact.{told, full}
 
 none_starts : {E A : Type 0} (g : G E A) → starts (after g) [] ≡ false

@@ -1,12 +1,19 @@
 -- Grammars as data: what they derive, what reads them from left to right, and when one token of lookahead decides.
-use Rattle.std.specs.Prelude.{◌≡◌, ℕ, zero, suc, Bool, true, false, if◌then◌else◌, ◌&&◌, ◌||◌, not, nat_le, nat_lt, List, [], ◌∷◌, ◌++◌, length, Result, Ok, Err, IsTrue, ◌⊎◌}
+use Rattle.std.specs.Prelude.{◌≡◌, ℕ, zero, suc, Bool, true, false, if◌then◌else◌, ◌&&◌, ◌||◌, not, nat_le, nat_lt, List, [], ◌∷◌, ◌++◌, length, Result, Ok, Err, ◌⊎◌}
 use Rattle.td_lex.specs.Tokens.{IsToken}
+use Rattle.td_grammar.specs.declared.kinds.KindRange.{KindRange}
 use Rattle.td_grammar.specs.declared.lexemes.Lexeme.{Lexeme}
 use Rattle.td_grammar.specs.Kinds.{kind_of}
 
 -- A set of kinds: intervals.
 abbrev pub Kinds : Type 0
 Kinds = List (ℕ × ℕ)
+
+abbrev pub only : ℕ → Kinds
+only k = (k, k) ∷ []
+
+abbrev pub within : KindRange → Kinds
+within r = (r.low, r.high) ∷ []
 
 abbrev pub has : ℕ → Kinds → Bool
 has k [] = false

@@ -1,5 +1,5 @@
 -- A token of each kind, with a text that spells it.
-use Rattle.std.proofs.Common.{◌≡◌, ℕ, ◌+◌, ◌<◌, ◌≤◌, ◌^◌, ◌==◌, pos, Bool, true, false, cond, ◌&&◌, ◌||◌, nat_le, List, [], ◌∷◌, ◌++◌, length, map, refl, sym, ap, ◌∙◌}
+use Rattle.std.proofs.Common.{◌≡◌, ℕ, ◌^◌, ◌==◌, pos, Bool, true, false, cond, ◌&&◌, ◌||◌, nat_le, List, [], ◌∷◌, map, refl, sym, ap, ◌∙◌}
 use Rattle.std.proofs.lemmas.Bool.{and_parts, ltb-true, eqb-true, false≢true}
 use Rattle.std.proofs.lemmas.Int.{fits_signed_from_abs}
 use Rattle.std.proofs.lemmas.Str.{IsUtf8-nil}
@@ -7,12 +7,12 @@ use Rattle.std.specs.Int.{w128}
 use Rattle.std.specs.Char.{to_ascii_lowercase}
 use Rattle.std.specs.List.{list_all}
 use lib.Chars.{codes}
-use Rattle.td_lex.specs.declared.kinds.Token.{Token}
-use Rattle.td_lex.specs.declared.kinds.Token.TheVariants.{Word, Num, Dur, Str, Sym, Le, Ge, Ne}
-use Rattle.td_lex.specs.Tokens.{IsToken, IsWord, is_word_start, is_word_byte}
-use Rattle.td_grammar.specs.Kinds.{kind_of, kind_of_word}
-use Rattle.td_grammar.specs.Names.{is_folded, begins_word, is_name, as_name}
-use Rattle.td_grammar.specs.Grammar.{has}
+use Rattle.td_lex.specs.declared.kinds.Token.TheVariants.{Word, Num, Dur, Str}
+use Rattle.td_lex.specs.Tokens.{IsToken, IsWord, is_word_byte}
+use Rattle.td_grammar.specs.Kinds.{kind_of_word}
+use Rattle.td_grammar.specs.declared.kinds.TheConstants.{NAMES}
+use Rattle.td_grammar.specs.Names.{is_folded, begins_word, is_word, is_name, as_name}
+use Rattle.td_grammar.specs.Grammar.{has, within}
 
 pub both_true : (a b : Bool) → a ≡ true → b ≡ true → (a && b) ≡ true
 both_true a b h i = ap (λ c. c && b) h ∙ i
@@ -39,22 +39,23 @@ begun_word : (text : List ℕ) → begins_word text ≡ true → list_all is_wor
 begun_word [] h all = absurd (false≢true h)
 begun_word (b ∷ bs) h all = (h, all)
 
+-- a text that passes the test is that of a word
+pub word_text : (text : List ℕ) → is_word text ≡ true → IsToken text (Word text)
+word_text text h =
+    let p = and_parts (begins_word text) (list_all is_folded text) h in
+    let f = folded_bytes text p.1 in
+    (begun_word text p.0 f.0, f.1)
+
 -- a name is a word's text
 pub name_text : (text : List ℕ) → IsToken (as_name text) (Word (as_name text))
 name_text text = elim (is_name text) as (λ n. is_name text ≡ n → IsToken (cond n text (codes "x")) (Word (cond n text (codes "x")))) [
-  | true ↦ λ is.
-      let p = and_parts (begins_word text && list_all is_folded text) (nat_le 20 (kind_of_word text) && nat_le (kind_of_word text) 79) is in
-      let q = and_parts (begins_word text) (list_all is_folded text) p.0 in
-      let f = folded_bytes text q.1 in
-      (begun_word text q.0 f.0, f.1)
+  | true ↦ λ is. word_text text (and_parts (is_word text) (nat_le NAMES.low (kind_of_word text) && nat_le (kind_of_word text) NAMES.high) is).0
   | false ↦ λ _. ((refl, refl), refl)
 ] refl
 
 -- and its kind is one of the names'
-pub name_kind : (text : List ℕ) → has (kind_of_word (as_name text)) ((20, 79) ∷ []) ≡ true
-name_kind text = elim (is_name text) as (λ n. is_name text ≡ n → has (kind_of_word (cond n text (codes "x"))) ((20, 79) ∷ []) ≡ true) [
-  | true ↦ λ is.
-      let p = and_parts (begins_word text && list_all is_folded text) (nat_le 20 (kind_of_word text) && nat_le (kind_of_word text) 79) is in
-      ap (λ b. b || false) p.1
+pub name_kind : (text : List ℕ) → has (kind_of_word (as_name text)) (within NAMES) ≡ true
+name_kind text = elim (is_name text) as (λ n. is_name text ≡ n → has (kind_of_word (cond n text (codes "x"))) (within NAMES) ≡ true) [
+  | true ↦ λ is. ap (λ b. b || false) (and_parts (is_word text) (nat_le NAMES.low (kind_of_word text) && nat_le (kind_of_word text) NAMES.high) is).1
   | false ↦ λ _. refl
 ] refl

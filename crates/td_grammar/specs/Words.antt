@@ -1,247 +1,21 @@
--- Grammars of one token.
-use Rattle.std.specs.Prelude.{◌≡◌, ℕ, ℤ, pos, Bool, true, false, ◌&&◌, ◌||◌, ◌==◌, ◌*◌, nat_le, nat_lt, if◌then◌else◌, List, [], ◌∷◌, ◌++◌, length, map, refl}
-use Rattle.std.proofs.Common.{ap, le_refl, inr}
-use Rattle.std.proofs.lemmas.Bool.{le-leb}
+-- Grammars of one token, and the forms that productions are made of.
+use Rattle.std.specs.Prelude.{◌≡◌, ℕ, ℤ, pos, Bool, true, false, ◌&&◌, ◌||◌, ◌==◌, ◌+◌, ◌*◌, nat_lt, if◌then◌else◌, List, [], ◌∷◌, ◌++◌, length, refl}
+use Rattle.std.proofs.Common.{ap, le_refl}
+use Rattle.std.proofs.lemmas.Bool.{and_parts, eqb-true, le-leb}
 use Rattle.std.proofs.lemmas.Slice.Eq.{bytes_eq-Decides}
 use Rattle.std.specs.Str.{bytes_eq}
 use Rattle.std.specs.Ordering.{int_eq}
-use Rattle.std.specs.Char.{to_ascii_lowercase}
 use lib.Chars.{codes}
+use Rattle.td_limits.specs.declared.limits.TheConstants.{LONGEST_DURATION}
 use Rattle.td_lex.specs.declared.kinds.Token.{Token}
 use Rattle.td_lex.specs.declared.kinds.Token.TheVariants.{Word, Num, Dur, Str, Sym, Le, Ge, Ne}
-use Rattle.td_lex.specs.Tokens.{IsToken, IsWord, is_symbol}
+use Rattle.td_lex.specs.Tokens.{is_symbol}
+use Rattle.td_grammar.specs.declared.kinds.TheConstants as kinds
 use Rattle.td_grammar.specs.declared.lexemes.Lexeme.{Lexeme}
-use Rattle.td_grammar.specs.Kinds.{kind_of, kind_of_word, kind_of_sign}
-use Rattle.td_grammar.specs.Names.{as_name}
-use Rattle.td_grammar.specs.Grammar.{Kinds, has, fits, real, Reading, looped, G, first, read, one, token, valued, both, under, maybe, either, loop}
-use Rattle.td_grammar.specs.Samples.{both_true, zero_text, second_text, empty_text, name_kind, name_text}
-
-pub own_kind : (k : ℕ) (t : Token) → fits ((k, k) ∷ []) (λ _. true) (record { kind = k; token = t }) ≡ true
-own_kind k t = ap (λ b. ((b && b) || false) && true) (le-leb k k (le_refl k))
-
--- one token of this kind, which says no more
-abbrev pub sign : {E : Type 0} → (k : ℕ) (t : Token) → real (record { kind = k; token = t }) → G E (Unit {0})
-sign k t is = token ((k, k) ∷ []) (λ _ _. true) (λ _. tt) (λ _. record { kind = k; token = t }) (λ _. own_kind k t) (λ _. is)
-
--- one word, in any case
-abbrev pub word : {E : Type 0} → (k : ℕ) (text : List ℕ) → k ≡ kind_of_word text → IsWord text → text ≡ map to_ascii_lowercase text → G E (Unit {0})
-word k text own is folded = sign k (Word text) (own, text, (is, folded))
-
-abbrev pub symbol : {E : Type 0} → (k b : ℕ) → k ≡ kind_of_sign b → is_symbol b ≡ true → G E (Unit {0})
-symbol k b own is = sign k (Sym b) (own, b ∷ [], (refl, is))
-
-abbrev pub OPEN_PAREN : {E : Type 0} → G E (Unit {0})
-OPEN_PAREN = symbol 5 40 refl refl
-
-abbrev pub CLOSE_PAREN : {E : Type 0} → G E (Unit {0})
-CLOSE_PAREN = symbol 6 41 refl refl
-
-abbrev pub COMMA : {E : Type 0} → G E (Unit {0})
-COMMA = symbol 7 44 refl refl
-
-abbrev pub SEMICOLON : {E : Type 0} → G E (Unit {0})
-SEMICOLON = symbol 8 59 refl refl
-
-abbrev pub STAR : {E : Type 0} → G E (Unit {0})
-STAR = symbol 9 42 refl refl
-
-abbrev pub LESS : {E : Type 0} → G E (Unit {0})
-LESS = symbol 10 60 refl refl
-
-abbrev pub MORE : {E : Type 0} → G E (Unit {0})
-MORE = symbol 11 62 refl refl
-
-abbrev pub EQUAL : {E : Type 0} → G E (Unit {0})
-EQUAL = symbol 12 61 refl refl
-
-abbrev pub AT_MOST : {E : Type 0} → G E (Unit {0})
-AT_MOST = sign 13 Le (refl, codes "<=", refl)
-
-abbrev pub AT_LEAST : {E : Type 0} → G E (Unit {0})
-AT_LEAST = sign 14 Ge (refl, codes ">=", refl)
-
-abbrev pub OTHER_THAN : {E : Type 0} → G E (Unit {0})
-OTHER_THAN = sign 15 Ne (refl, codes "!=", inr refl)
-
-abbrev pub CREATE : {E : Type 0} → G E (Unit {0})
-CREATE = word 80 (codes "create") refl (refl, refl) refl
-
-abbrev pub STABLE : {E : Type 0} → G E (Unit {0})
-STABLE = word 81 (codes "stable") refl (refl, refl) refl
-
-abbrev pub TABLE : {E : Type 0} → G E (Unit {0})
-TABLE = word 82 (codes "table") refl (refl, refl) refl
-
-abbrev pub USING : {E : Type 0} → G E (Unit {0})
-USING = word 83 (codes "using") refl (refl, refl) refl
-
-abbrev pub TAGS : {E : Type 0} → G E (Unit {0})
-TAGS = word 84 (codes "tags") refl (refl, refl) refl
-
-abbrev pub INSERT : {E : Type 0} → G E (Unit {0})
-INSERT = word 85 (codes "insert") refl (refl, refl) refl
-
-abbrev pub INTO : {E : Type 0} → G E (Unit {0})
-INTO = word 86 (codes "into") refl (refl, refl) refl
-
-abbrev pub VALUES : {E : Type 0} → G E (Unit {0})
-VALUES = word 87 (codes "values") refl (refl, refl) refl
-
-abbrev pub DELETE : {E : Type 0} → G E (Unit {0})
-DELETE = word 88 (codes "delete") refl (refl, refl) refl
-
-abbrev pub FROM : {E : Type 0} → G E (Unit {0})
-FROM = word 89 (codes "from") refl (refl, refl) refl
-
-abbrev pub WHERE : {E : Type 0} → G E (Unit {0})
-WHERE = word 90 (codes "where") refl (refl, refl) refl
-
-abbrev pub AND : {E : Type 0} → G E (Unit {0})
-AND = word 91 (codes "and") refl (refl, refl) refl
-
-abbrev pub BETWEEN : {E : Type 0} → G E (Unit {0})
-BETWEEN = word 92 (codes "between") refl (refl, refl) refl
-
-abbrev pub IS : {E : Type 0} → G E (Unit {0})
-IS = word 93 (codes "is") refl (refl, refl) refl
-
-abbrev pub NOT : {E : Type 0} → G E (Unit {0})
-NOT = word 94 (codes "not") refl (refl, refl) refl
-
-abbrev pub NULL : {E : Type 0} → G E (Unit {0})
-NULL = word 95 (codes "null") refl (refl, refl) refl
-
-abbrev pub SELECT : {E : Type 0} → G E (Unit {0})
-SELECT = word 96 (codes "select") refl (refl, refl) refl
-
-abbrev pub AS : {E : Type 0} → G E (Unit {0})
-AS = word 97 (codes "as") refl (refl, refl) refl
-
-abbrev pub PARTITION : {E : Type 0} → G E (Unit {0})
-PARTITION = word 98 (codes "partition") refl (refl, refl) refl
-
-abbrev pub BY : {E : Type 0} → G E (Unit {0})
-BY = word 99 (codes "by") refl (refl, refl) refl
-
-abbrev pub INTERVAL : {E : Type 0} → G E (Unit {0})
-INTERVAL = word 100 (codes "interval") refl (refl, refl) refl
-
-abbrev pub SLIDING : {E : Type 0} → G E (Unit {0})
-SLIDING = word 101 (codes "sliding") refl (refl, refl) refl
-
-abbrev pub SESSION : {E : Type 0} → G E (Unit {0})
-SESSION = word 102 (codes "session") refl (refl, refl) refl
-
-abbrev pub STATE_WINDOW : {E : Type 0} → G E (Unit {0})
-STATE_WINDOW = word 103 (codes "state_window") refl (refl, refl) refl
-
-abbrev pub ORDER : {E : Type 0} → G E (Unit {0})
-ORDER = word 104 (codes "order") refl (refl, refl) refl
-
-abbrev pub ASC : {E : Type 0} → G E (Unit {0})
-ASC = word 105 (codes "asc") refl (refl, refl) refl
-
-abbrev pub DESC : {E : Type 0} → G E (Unit {0})
-DESC = word 106 (codes "desc") refl (refl, refl) refl
-
-abbrev pub LIMIT : {E : Type 0} → G E (Unit {0})
-LIMIT = word 107 (codes "limit") refl (refl, refl) refl
-
-abbrev pub OFFSET : {E : Type 0} → G E (Unit {0})
-OFFSET = word 108 (codes "offset") refl (refl, refl) refl
-
-abbrev pub STREAM : {E : Type 0} → G E (Unit {0})
-STREAM = word 109 (codes "stream") refl (refl, refl) refl
-
-abbrev pub DROP : {E : Type 0} → G E (Unit {0})
-DROP = word 110 (codes "drop") refl (refl, refl) refl
-
-abbrev pub TRUE : {E : Type 0} → G E (Unit {0})
-TRUE = word 111 (codes "true") refl (refl, refl) refl
-
-abbrev pub FALSE : {E : Type 0} → G E (Unit {0})
-FALSE = word 112 (codes "false") refl (refl, refl) refl
-
-abbrev pub NOW : {E : Type 0} → G E (Unit {0})
-NOW = word 113 (codes "now") refl (refl, refl) refl
-
-abbrev pub TBNAME : {E : Type 0} → G E (Unit {0})
-TBNAME = word 114 (codes "tbname") refl (refl, refl) refl
-
-abbrev pub _WSTART : {E : Type 0} → G E (Unit {0})
-_WSTART = word 115 (codes "_wstart") refl (refl, refl) refl
-
-abbrev pub _WEND : {E : Type 0} → G E (Unit {0})
-_WEND = word 116 (codes "_wend") refl (refl, refl) refl
-
-abbrev pub BOOL : {E : Type 0} → G E (Unit {0})
-BOOL = word 21 (codes "bool") refl (refl, refl) refl
-
-abbrev pub TIMESTAMP : {E : Type 0} → G E (Unit {0})
-TIMESTAMP = word 22 (codes "timestamp") refl (refl, refl) refl
-
-abbrev pub TINYINT : {E : Type 0} → G E (Unit {0})
-TINYINT = word 23 (codes "tinyint") refl (refl, refl) refl
-
-abbrev pub SMALLINT : {E : Type 0} → G E (Unit {0})
-SMALLINT = word 24 (codes "smallint") refl (refl, refl) refl
-
-abbrev pub INT : {E : Type 0} → G E (Unit {0})
-INT = word 25 (codes "int") refl (refl, refl) refl
-
-abbrev pub BIGINT : {E : Type 0} → G E (Unit {0})
-BIGINT = word 26 (codes "bigint") refl (refl, refl) refl
-
-abbrev pub UNSIGNED : {E : Type 0} → G E (Unit {0})
-UNSIGNED = word 27 (codes "unsigned") refl (refl, refl) refl
-
-abbrev pub TRIGGER : {E : Type 0} → G E (Unit {0})
-TRIGGER = word 45 (codes "trigger") refl (refl, refl) refl
-
-abbrev pub AT_ONCE : {E : Type 0} → G E (Unit {0})
-AT_ONCE = word 46 (codes "at_once") refl (refl, refl) refl
-
-abbrev pub WINDOW_CLOSE : {E : Type 0} → G E (Unit {0})
-WINDOW_CLOSE = word 47 (codes "window_close") refl (refl, refl) refl
-
-abbrev pub MAX_DELAY : {E : Type 0} → G E (Unit {0})
-MAX_DELAY = word 48 (codes "max_delay") refl (refl, refl) refl
-
-abbrev pub WATERMARK : {E : Type 0} → G E (Unit {0})
-WATERMARK = word 49 (codes "watermark") refl (refl, refl) refl
-
-abbrev pub IGNORE : {E : Type 0} → G E (Unit {0})
-IGNORE = word 50 (codes "ignore") refl (refl, refl) refl
-
-abbrev pub EXPIRED : {E : Type 0} → G E (Unit {0})
-EXPIRED = word 51 (codes "expired") refl (refl, refl) refl
-
-abbrev pub FILL_HISTORY : {E : Type 0} → G E (Unit {0})
-FILL_HISTORY = word 52 (codes "fill_history") refl (refl, refl) refl
-
-abbrev pub OPEN : {E : Type 0} → G E (Unit {0})
-OPEN = word 55 (codes "open") refl (refl, refl) refl
-
-abbrev pub FETCH : {E : Type 0} → G E (Unit {0})
-FETCH = word 56 (codes "fetch") refl (refl, refl) refl
-
-abbrev pub CLOSE : {E : Type 0} → G E (Unit {0})
-CLOSE = word 57 (codes "close") refl (refl, refl) refl
-
-abbrev pub COMMIT : {E : Type 0} → G E (Unit {0})
-COMMIT = word 58 (codes "commit") refl (refl, refl) refl
-
-abbrev pub MERGE : {E : Type 0} → G E (Unit {0})
-MERGE = word 59 (codes "merge") refl (refl, refl) refl
-
-abbrev pub SWEEP : {E : Type 0} → G E (Unit {0})
-SWEEP = word 60 (codes "sweep") refl (refl, refl) refl
-
-abbrev pub TRIM : {E : Type 0} → G E (Unit {0})
-TRIM = word 61 (codes "trim") refl (refl, refl) refl
-
-abbrev pub STEP : {E : Type 0} → G E (Unit {0})
-STEP = word 62 (codes "step") refl (refl, refl) refl
+use Rattle.td_grammar.specs.Kinds.{Table, lookup, words, signs, kind_of_word, kind_of_sign, spelling, first_byte}
+use Rattle.td_grammar.specs.Names.{is_word, as_name}
+use Rattle.td_grammar.specs.Grammar.{Kinds, only, within, has, fits, Reading, looped, G, first, read, one, token, both, maybe, loop}
+use Rattle.td_grammar.specs.Samples.{both_true, zero_text, second_text, empty_text, word_text, name_kind, name_text}
 
 -- what tokens say
 abbrev pub word_of : Token → List ℕ
@@ -274,13 +48,16 @@ text_of Le = []
 text_of Ge = []
 text_of Ne = []
 
--- the milliseconds of a unit; 0 of those that are not built
-abbrev pub unit_of : ℕ → ℕ
-unit_of u = if u == 97 then 1 else if u == 115 then 1000 else if u == 109 then 60000 else if u == 104 then 3600000 else if u == 100 then 86400000 else if u == 119 then 604800000 else 0
+-- the milliseconds of the units a, s, m, h, d, w; 0 of those that are not built
+abbrev pub units : Table
+units = (codes "a", 1) ∷ (codes "s", 1000) ∷ (codes "m", 60 * 1000) ∷ (codes "h", 3600 * 1000) ∷ (codes "d", 24 * 3600 * 1000) ∷ (codes "w", 7 * 24 * 3600 * 1000) ∷ []
 
--- a number of milliseconds; above 315360000000000 it is kept as one more than that
+abbrev pub unit_of : ℕ → ℕ
+unit_of u = lookup units (u ∷ []) 0
+
+-- a number of milliseconds; above the longest duration it is kept as one more than that
 abbrev pub kept : ℕ → ℕ
-kept n = if nat_lt 315360000000000 n then 315360000000001 else n
+kept n = if nat_lt LONGEST_DURATION n then LONGEST_DURATION + 1 else n
 
 abbrev pub duration_of : Token → ℕ
 duration_of (Word text) = 0
@@ -292,31 +69,72 @@ duration_of Le = 0
 duration_of Ge = 0
 duration_of Ne = 0
 
+-- whether some word is of this kind
+abbrev pub is_word_kind : ℕ → Bool
+is_word_kind k = (k == kind_of_word (spelling words k)) && is_word (spelling words k)
+
+-- whether some sign is of this kind
+abbrev pub is_sign_kind : ℕ → Bool
+is_sign_kind k = (k == kind_of_sign (first_byte (spelling signs k))) && is_symbol (first_byte (spelling signs k))
+
+pub fits_within : (s : Kinds) (k : ℕ) (t : Token) → has k s ≡ true → fits s (λ _. true) (record { kind = k; token = t }) ≡ true
+fits_within s k t h = ap (λ b. b && true) h
+
+pub in_only : (k : ℕ) → has k (only k) ≡ true
+in_only k = ap (λ b. (b && b) || false) (le-leb k k (le_refl k))
+
+-- a word of these kinds, with its value; the word of kind k is one of them
+abbrev pub word_in : {E A : Type 0} → (s : Kinds) → (Lexeme → A) → (k : ℕ) → is_word_kind k ≡ true → has k s ≡ true → G E A
+word_in s value k is member =
+    let p = and_parts (k == kind_of_word (spelling words k)) (is_word (spelling words k)) is in
+    token s (λ _ _. true) value (λ _. record { kind = k; token = Word (spelling words k) }) (λ _. fits_within s k (Word (spelling words k)) member)
+    (λ _. (eqb-true k (kind_of_word (spelling words k)) p.0, spelling words k, word_text (spelling words k) p.1))
+
+-- the word of this kind, in any case
+abbrev pub word : {E : Type 0} → (k : ℕ) → is_word_kind k ≡ true → G E (Unit {0})
+word k is = word_in (only k) (λ _. tt) k is (in_only k)
+
+-- the sign of this kind
+abbrev pub sign : {E : Type 0} → (k : ℕ) → is_sign_kind k ≡ true → G E (Unit {0})
+sign k is =
+    let p = and_parts (k == kind_of_sign (first_byte (spelling signs k))) (is_symbol (first_byte (spelling signs k))) is in
+    token (only k) (λ _ _. true) (λ _. tt) (λ _. record { kind = k; token = Sym (first_byte (spelling signs k)) }) (λ _. fits_within (only k) k (Sym (first_byte (spelling signs k))) (in_only k))
+    (λ _. (eqb-true k (kind_of_sign (first_byte (spelling signs k))) p.0, first_byte (spelling signs k) ∷ [], (refl, p.1)))
+
+abbrev pub comma : {E : Type 0} → G E (Unit {0})
+comma = sign kinds.COMMA refl
+
+-- `<=` and `>=`
+abbrev pub at_most : {E : Type 0} → G E (Unit {0})
+at_most = token (only kinds.AT_MOST) (λ _ _. true) (λ _. tt) (λ _. record { kind = kinds.AT_MOST; token = Le }) (λ _. refl) (λ _. (refl, codes "<=", refl))
+
+abbrev pub at_least : {E : Type 0} → G E (Unit {0})
+at_least = token (only kinds.AT_LEAST) (λ _ _. true) (λ _. tt) (λ _. record { kind = kinds.AT_LEAST; token = Ge }) (λ _. refl) (λ _. (refl, codes ">=", refl))
+
 -- a word that is neither reserved nor one that is not built
 abbrev pub name : {E : Type 0} → G E (List ℕ)
-name = token ((20, 79) ∷ []) (λ _ _. true) (λ t. word_of t.token) (λ _. record { kind = 20; token = Word (codes "x") }) (λ _. refl) (λ _. (refl, codes "x", ((refl, refl), refl)))
+name = word_in (within kinds.NAMES) (λ t. word_of t.token) kinds.PLAIN_WORD refl refl
 
 abbrev pub number : {E : Type 0} → G E ℤ
-number = token ((1, 2) ∷ []) (λ _ _. true) (λ t. number_of t.token) (λ _. record { kind = 1; token = Num (pos 0) }) (λ _. refl) (λ _. (refl, codes "0", zero_text))
+number = token (within kinds.NUMBERS) (λ _ _. true) (λ t. number_of t.token) (λ _. record { kind = kinds.BIT; token = Num (pos 0) }) (λ _. refl) (λ _. (refl, codes "0", zero_text))
 
--- the number 0 or 1
-abbrev pub bit : {E : Type 0} → G E Bool
-bit = token ((1, 1) ∷ []) (λ _ _. true) (λ t. int_eq (number_of t.token) (pos 1)) (λ _. record { kind = 1; token = Num (pos 0) }) (λ _. refl) (λ _. (refl, codes "0", zero_text))
+abbrev pub zero_or_one : {E : Type 0} → G E Bool
+zero_or_one = token (only kinds.BIT) (λ _ _. true) (λ t. int_eq (number_of t.token) (pos 1)) (λ _. record { kind = kinds.BIT; token = Num (pos 0) }) (λ _. refl) (λ _. (refl, codes "0", zero_text))
 
-abbrev pub text : {E : Type 0} → G E (List ℕ)
-text = token ((3, 3) ∷ []) (λ _ _. true) (λ t. text_of t.token) (λ _. record { kind = 3; token = Str [] }) (λ _. refl) (λ _. (refl, codes "''", empty_text))
+abbrev pub quoted_text : {E : Type 0} → G E (List ℕ)
+quoted_text = token (only kinds.TEXT) (λ _ _. true) (λ t. text_of t.token) (λ _. record { kind = kinds.TEXT; token = Str [] }) (λ _. refl) (λ _. (refl, codes "''", empty_text))
 
 abbrev pub duration : {E : Type 0} → G E ℕ
-duration = token ((4, 4) ∷ []) (λ _ _. true) (λ t. duration_of t.token) (λ _. record { kind = 4; token = Dur 1 115 }) (λ _. refl) (λ _. (refl, codes "1s", second_text))
+duration = token (only kinds.DURATION) (λ _ _. true) (λ t. duration_of t.token) (λ _. record { kind = kinds.DURATION; token = Dur 1 (first_byte (codes "s")) }) (λ _. refl) (λ _. (refl, codes "1s", second_text))
 
 -- the name in force
-abbrev pub same : G (List ℕ) (Unit {0})
-same = token ((20, 79) ∷ []) (λ name t. bytes_eq (word_of t.token) (as_name name)) (λ _. tt {0}) (λ name. record { kind = kind_of_word (as_name name); token = Word (as_name name) })
-    (λ name. both_true (has (kind_of_word (as_name name)) ((20, 79) ∷ [])) (bytes_eq (as_name name) (as_name name)) (name_kind name) ((bytes_eq-Decides (as_name name) (as_name name)).1 refl)) (λ name. (refl, as_name name, name_text name))
+abbrev pub same_name : G (List ℕ) (Unit {0})
+same_name = token (within kinds.NAMES) (λ name t. bytes_eq (word_of t.token) (as_name name)) (λ _. tt {0}) (λ name. record { kind = kind_of_word (as_name name); token = Word (as_name name) })
+    (λ name. both_true (has (kind_of_word (as_name name)) (within kinds.NAMES)) (bytes_eq (as_name name) (as_name name)) (name_kind name) ((bytes_eq-Decides (as_name name) (as_name name)).1 refl)) (λ name. (refl, as_name name, name_text name))
 
 -- reading one token that says no more
-abbrev pub signs : ℕ → List Lexeme → Reading (Unit {0})
-signs k ts = one (fits ((k, k) ∷ []) (λ _. true)) (λ _. tt) ts
+abbrev pub skipped : ℕ → List Lexeme → Reading (Unit {0})
+skipped k ts = one (fits (only k) (λ _. true)) (λ _. tt) ts
 
 -- the value of the second, of the first
 infixr 6 ◌▷◌
@@ -336,6 +154,10 @@ push all a = all ++ a ∷ []
 -- one, and any number of further ones
 abbrev pub listed : {E A : Type 0} → G E A → G E A → G E (List A)
 listed head item = both (λ a more. a ∷ more) head (loop [] anything push item)
+
+-- items, parted by commas
+abbrev pub comma_list : {E A : Type 0} → G E A → G E (List A)
+comma_list item = listed item (comma ▷ item)
 
 -- there or not
 abbrev pub perhaps : {E A : Type 0} → G E A → G E (Unit {0})

@@ -1,3 +1,4 @@
+//! Why a text of tokens is none of a grammar.
 use std::alloc::{AllocError, AllocFailed};
 use td_layer::NoMem;
 

@@ -1,178 +1,242 @@
-//! The kinds of tokens by name. Kinds 20 to 79 are words that may be names, and 80 to 116 reserved ones.
+//! The kinds of tokens by name, and ranges of them. A word is added here and in the table of `words.rt`.
+//!
+//! Numbers, texts, durations and signs come first, then words that may be names, then reserved words.
+
+/// The kind of a token: a number below 128.
+pub type TokenKind = u8;
+
+/// The kinds from one to another, both included.
+#[derive(Clone, Copy, Debug)]
+pub struct KindRange {
+    pub low: TokenKind,
+    pub high: TokenKind,
+}
+
+/// Whole numbers.
+pub const NUMBERS: KindRange = KindRange {
+    low: BIT,
+    high: NUMBER,
+};
+/// What compares a column or a tag with a literal.
+pub const COMPARISONS: KindRange = KindRange {
+    low: LESS,
+    high: OTHER_THAN,
+};
+/// Words that may be names.
+pub const NAMES: KindRange = KindRange {
+    low: PLAIN_WORD,
+    high: LAST_NAME,
+};
+/// Words of types that no column has; the last of them has its place in a tag.
+pub const NOT_BUILT_TYPES: KindRange = KindRange {
+    low: NOT_BUILT_TYPE,
+    high: VARCHAR,
+};
+/// Functions.
+pub const FUNCTIONS: KindRange = KindRange {
+    low: COUNT,
+    high: SPREAD,
+};
+/// Functions of a column alone.
+pub const COLUMN_FUNCTIONS: KindRange = KindRange {
+    low: SUM,
+    high: SPREAD,
+};
+/// Names that are no functions, with kinds below those of functions.
+pub const NAMES_BELOW_FUNCTIONS: KindRange = KindRange {
+    low: PLAIN_WORD,
+    high: 34,
+};
+/// Names that are no functions, with kinds above those of functions.
+pub const NAMES_ABOVE_FUNCTIONS: KindRange = KindRange {
+    low: 43,
+    high: LAST_NAME,
+};
+
+// ---- numbers, texts, durations
 
 /// The number 0 or 1.
-pub const BIT: u8 = 1;
+pub const BIT: TokenKind = 1;
 /// Another number.
-pub const NUMBER: u8 = 2;
+pub const NUMBER: TokenKind = 2;
 /// A text in quotes.
-pub const TEXT: u8 = 3;
+pub const TEXT: TokenKind = 3;
 /// A duration.
-pub const DURATION: u8 = 4;
+pub const DURATION: TokenKind = 4;
+
+// ---- signs
+
 /// `(`
-pub const OPEN_PAREN: u8 = 5;
+pub const OPEN_PAREN: TokenKind = 5;
 /// `)`
-pub const CLOSE_PAREN: u8 = 6;
+pub const CLOSE_PAREN: TokenKind = 6;
 /// `,`
-pub const COMMA: u8 = 7;
+pub const COMMA: TokenKind = 7;
 /// `;`
-pub const SEMICOLON: u8 = 8;
+pub const SEMICOLON: TokenKind = 8;
 /// `*`
-pub const STAR: u8 = 9;
+pub const STAR: TokenKind = 9;
 /// `<`
-pub const LESS: u8 = 10;
+pub const LESS: TokenKind = 10;
 /// `>`
-pub const MORE: u8 = 11;
+pub const MORE: TokenKind = 11;
 /// `=`
-pub const EQUAL: u8 = 12;
+pub const EQUAL: TokenKind = 12;
 /// `<=`
-pub const AT_MOST: u8 = 13;
+pub const AT_MOST: TokenKind = 13;
 /// `>=`
-pub const AT_LEAST: u8 = 14;
+pub const AT_LEAST: TokenKind = 14;
 /// `<>` or `!=`
-pub const OTHER_THAN: u8 = 15;
+pub const OTHER_THAN: TokenKind = 15;
+
+// ---- words that may be names
+
 /// A word without a place of its own.
-pub const PLAIN_WORD: u8 = 20;
-/// The name of a type that neither a column nor a tag takes.
-pub const NOT_BUILT_TYPE: u8 = 30;
-/// `varchar` or `binary`
-pub const VARCHAR: u8 = 31;
-/// The last kind of words that may be names.
-pub const LAST_NAME: u8 = 79;
-/// A word that is not built, and is reserved.
-pub const NOT_BUILT: u8 = 120;
-/// `create`
-pub const CREATE: u8 = 80;
-/// `stable`
-pub const STABLE: u8 = 81;
-/// `table`
-pub const TABLE: u8 = 82;
-/// `using`
-pub const USING: u8 = 83;
-/// `tags`
-pub const TAGS: u8 = 84;
-/// `insert`
-pub const INSERT: u8 = 85;
-/// `into`
-pub const INTO: u8 = 86;
-/// `values`
-pub const VALUES: u8 = 87;
-/// `delete`
-pub const DELETE: u8 = 88;
-/// `from`
-pub const FROM: u8 = 89;
-/// `where`
-pub const WHERE: u8 = 90;
-/// `and`
-pub const AND: u8 = 91;
-/// `between`
-pub const BETWEEN: u8 = 92;
-/// `is`
-pub const IS: u8 = 93;
-/// `not`
-pub const NOT: u8 = 94;
-/// `null`
-pub const NULL: u8 = 95;
-/// `select`
-pub const SELECT: u8 = 96;
-/// `as`
-pub const AS: u8 = 97;
-/// `partition`
-pub const PARTITION: u8 = 98;
-/// `by`
-pub const BY: u8 = 99;
-/// `interval`
-pub const INTERVAL: u8 = 100;
-/// `sliding`
-pub const SLIDING: u8 = 101;
-/// `session`
-pub const SESSION: u8 = 102;
-/// `state_window`
-pub const STATE_WINDOW: u8 = 103;
-/// `order`
-pub const ORDER: u8 = 104;
-/// `asc`
-pub const ASC: u8 = 105;
-/// `desc`
-pub const DESC: u8 = 106;
-/// `limit`
-pub const LIMIT: u8 = 107;
-/// `offset`
-pub const OFFSET: u8 = 108;
-/// `stream`
-pub const STREAM: u8 = 109;
-/// `drop`
-pub const DROP: u8 = 110;
-/// `true`
-pub const TRUE: u8 = 111;
-/// `false`
-pub const FALSE: u8 = 112;
-/// `now`
-pub const NOW: u8 = 113;
-/// `tbname`
-pub const TBNAME: u8 = 114;
-/// `_wstart`
-pub const WSTART: u8 = 115;
-/// `_wend`
-pub const WEND: u8 = 116;
+pub const PLAIN_WORD: TokenKind = 20;
 /// `bool`
-pub const BOOL: u8 = 21;
+pub const BOOL: TokenKind = 21;
 /// `timestamp`
-pub const TIMESTAMP: u8 = 22;
+pub const TIMESTAMP: TokenKind = 22;
 /// `tinyint`
-pub const TINYINT: u8 = 23;
+pub const TINYINT: TokenKind = 23;
 /// `smallint`
-pub const SMALLINT: u8 = 24;
+pub const SMALLINT: TokenKind = 24;
 /// `int` or `integer`
-pub const INT: u8 = 25;
+pub const INT: TokenKind = 25;
 /// `bigint`
-pub const BIGINT: u8 = 26;
+pub const BIGINT: TokenKind = 26;
 /// `unsigned`
-pub const UNSIGNED: u8 = 27;
+pub const UNSIGNED: TokenKind = 27;
+/// The name of a type that neither a column nor a tag takes.
+pub const NOT_BUILT_TYPE: TokenKind = 30;
+/// `varchar` or `binary`
+pub const VARCHAR: TokenKind = 31;
 /// `count`
-pub const COUNT: u8 = 35;
+pub const COUNT: TokenKind = 35;
 /// `sum`
-pub const SUM: u8 = 36;
+pub const SUM: TokenKind = 36;
 /// `min`
-pub const MIN: u8 = 37;
+pub const MIN: TokenKind = 37;
 /// `max`
-pub const MAX: u8 = 38;
+pub const MAX: TokenKind = 38;
 /// `avg`
-pub const AVG: u8 = 39;
+pub const AVG: TokenKind = 39;
 /// `first`
-pub const FIRST: u8 = 40;
+pub const FIRST: TokenKind = 40;
 /// `last`
-pub const LAST: u8 = 41;
+pub const LAST: TokenKind = 41;
 /// `spread`
-pub const SPREAD: u8 = 42;
+pub const SPREAD: TokenKind = 42;
 /// `trigger`
-pub const TRIGGER: u8 = 45;
+pub const TRIGGER: TokenKind = 45;
 /// `at_once`
-pub const AT_ONCE: u8 = 46;
+pub const AT_ONCE: TokenKind = 46;
 /// `window_close`
-pub const WINDOW_CLOSE: u8 = 47;
+pub const WINDOW_CLOSE: TokenKind = 47;
 /// `max_delay`
-pub const MAX_DELAY: u8 = 48;
+pub const MAX_DELAY: TokenKind = 48;
 /// `watermark`
-pub const WATERMARK: u8 = 49;
+pub const WATERMARK: TokenKind = 49;
 /// `ignore`
-pub const IGNORE: u8 = 50;
+pub const IGNORE: TokenKind = 50;
 /// `expired`
-pub const EXPIRED: u8 = 51;
+pub const EXPIRED: TokenKind = 51;
 /// `fill_history`
-pub const FILL_HISTORY: u8 = 52;
+pub const FILL_HISTORY: TokenKind = 52;
 /// `open`
-pub const OPEN: u8 = 55;
+pub const OPEN: TokenKind = 55;
 /// `fetch`
-pub const FETCH: u8 = 56;
+pub const FETCH: TokenKind = 56;
 /// `close`
-pub const CLOSE: u8 = 57;
+pub const CLOSE: TokenKind = 57;
 /// `commit`
-pub const COMMIT: u8 = 58;
+pub const COMMIT: TokenKind = 58;
 /// `merge`
-pub const MERGE: u8 = 59;
+pub const MERGE: TokenKind = 59;
 /// `sweep`
-pub const SWEEP: u8 = 60;
+pub const SWEEP: TokenKind = 60;
 /// `trim`
-pub const TRIM: u8 = 61;
+pub const TRIM: TokenKind = 61;
 /// `step`
-pub const STEP: u8 = 62;
+pub const STEP: TokenKind = 62;
+/// The last kind of words that may be names.
+pub const LAST_NAME: TokenKind = 79;
+
+// ---- reserved words
+
+/// `create`
+pub const CREATE: TokenKind = 80;
+/// `stable`
+pub const STABLE: TokenKind = 81;
+/// `table`
+pub const TABLE: TokenKind = 82;
+/// `using`
+pub const USING: TokenKind = 83;
+/// `tags`
+pub const TAGS: TokenKind = 84;
+/// `insert`
+pub const INSERT: TokenKind = 85;
+/// `into`
+pub const INTO: TokenKind = 86;
+/// `values`
+pub const VALUES: TokenKind = 87;
+/// `delete`
+pub const DELETE: TokenKind = 88;
+/// `from`
+pub const FROM: TokenKind = 89;
+/// `where`
+pub const WHERE: TokenKind = 90;
+/// `and`
+pub const AND: TokenKind = 91;
+/// `between`
+pub const BETWEEN: TokenKind = 92;
+/// `is`
+pub const IS: TokenKind = 93;
+/// `not`
+pub const NOT: TokenKind = 94;
+/// `null`
+pub const NULL: TokenKind = 95;
+/// `select`
+pub const SELECT: TokenKind = 96;
+/// `as`
+pub const AS: TokenKind = 97;
+/// `partition`
+pub const PARTITION: TokenKind = 98;
+/// `by`
+pub const BY: TokenKind = 99;
+/// `interval`
+pub const INTERVAL: TokenKind = 100;
+/// `sliding`
+pub const SLIDING: TokenKind = 101;
+/// `session`
+pub const SESSION: TokenKind = 102;
+/// `state_window`
+pub const STATE_WINDOW: TokenKind = 103;
+/// `order`
+pub const ORDER: TokenKind = 104;
+/// `asc`
+pub const ASC: TokenKind = 105;
+/// `desc`
+pub const DESC: TokenKind = 106;
+/// `limit`
+pub const LIMIT: TokenKind = 107;
+/// `offset`
+pub const OFFSET: TokenKind = 108;
+/// `stream`
+pub const STREAM: TokenKind = 109;
+/// `drop`
+pub const DROP: TokenKind = 110;
+/// `true`
+pub const TRUE: TokenKind = 111;
+/// `false`
+pub const FALSE: TokenKind = 112;
+/// `now`
+pub const NOW: TokenKind = 113;
+/// `tbname`
+pub const TBNAME: TokenKind = 114;
+/// `_wstart`
+pub const WSTART: TokenKind = 115;
+/// `_wend`
+pub const WEND: TokenKind = 116;
+/// A word that is not built, and is reserved.
+pub const NOT_BUILT: TokenKind = 120;

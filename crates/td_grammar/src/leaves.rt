@@ -1,39 +1,50 @@
 //! Functions that read one token.
 ghost use Rattle.std.specs.Prelude.{◌≡◌, ◌*◌, [], ◌∷◌, true, IfOk};
 ghost use Rattle.std.specs.List.{list_all};
-ghost use Rattle.td_grammar.specs.Grammar.{fits, one, read};
+ghost use Rattle.td_grammar.specs.Grammar.{only, within, fits, one, read};
 ghost use Rattle.td_grammar.specs.Grammar.{starts as starts_with};
 ghost use Rattle.td_grammar.specs.Gives.{Gives};
 ghost use Rattle.td_grammar.specs.Names.{is_folded as is_folded_byte, is_name as is_a_name, as_name as name_as};
-ghost use Rattle.td_grammar.specs.Words.{signs, name as a_name, number as a_number, bit as a_bit, text as a_text, duration as a_duration, same as a_same, word_of, text_of, number_of, duration_of, unit_of};
+ghost use Rattle.td_grammar.specs.Words.{skipped, name as a_name, number as a_number, zero_or_one as a_bit, quoted_text as a_text, duration as a_duration, same_name as the_same_name, word_of, text_of, number_of, duration_of, unit_of};
 
 use crate::fault::Fault;
+use crate::kinds::{BIT, DURATION, KindRange, NAMES, NUMBERS, TEXT, TokenKind};
 use crate::lexemes::Lexeme;
 use crate::words::kind_of_word;
 use std::alloc::Global;
 use td_layer::{Name, NoMem, Seq};
 use td_lex::Token;
+use td_limits::LONGEST_DURATION;
+
+/// Whether a token of this kind is next.
+pub fn starts(tokens: &[Lexeme], kind: TokenKind) -> bool
+    ensures { result ≡ starts_with (only kind) tokens.now }
+{
+    let low = kind;
+    let high = kind;
+    starts_in(tokens, KindRange { low, high })
+}
 
 /// Whether a token whose kind is in this range is next.
 #[tactic(auto, using(std::proofs::lemmas::Bool::Decides::nat_tests))]
-pub fn starts(tokens: &[Lexeme], low: u8, high: u8) -> bool
-    ensures { result ≡ starts_with ((low, high) ∷ []) tokens.now }
+pub fn starts_in(tokens: &[Lexeme], range: KindRange) -> bool
+    ensures { result ≡ starts_with (within range) tokens.now }
 {
     match tokens {
         [] => false,
-        [token, ..] => low <= token.kind && token.kind <= high,
+        [token, ..] => range.low <= token.kind && token.kind <= range.high,
     }
 }
 
 /// The next token, whose kind is in this range, and those behind it.
 #[tactic(auto, using(std::proofs::lemmas::Bool::Decides::nat_tests))]
-pub fn next(tokens: &[Lexeme], low: u8, high: u8) -> Result<(&Lexeme, &[Lexeme]), Fault>
-    ensures { Gives (λ x. (x.0.now, x.1.now)) result (one (fits ((low, high) ∷ []) (λ _. true)) (λ t. t) tokens.now) }
+pub fn token_in(tokens: &[Lexeme], range: KindRange) -> Result<(&Lexeme, &[Lexeme]), Fault>
+    ensures { Gives (λ x. (x.0.now, x.1.now)) result (one (fits (within range) (λ _. true)) (λ t. t) tokens.now) }
 {
     match tokens {
         [] => Err(Fault::At(0)),
         [token, rest @ ..] => {
-            if low <= token.kind && token.kind <= high {
+            if range.low <= token.kind && token.kind <= range.high {
                 Ok((token, rest))
             } else {
                 Err(Fault::At(tokens.len()))
@@ -42,12 +53,21 @@ pub fn next(tokens: &[Lexeme], low: u8, high: u8) -> Result<(&Lexeme, &[Lexeme])
     }
 }
 
-/// What follows the next token, which is of this kind.
-#[tactic(auto, using(crate::proofs::Forms::one_value))]
-pub fn sign(tokens: &[Lexeme], kind: u8) -> Result<&[Lexeme], Fault>
-    ensures { Gives (λ rest. (tt, rest.now)) result (signs kind tokens.now) }
+/// The next token, which is of this kind, and those behind it.
+pub fn token_of(tokens: &[Lexeme], kind: TokenKind) -> Result<(&Lexeme, &[Lexeme]), Fault>
+    ensures { Gives (λ x. (x.0.now, x.1.now)) result (one (fits (only kind) (λ _. true)) (λ t. t) tokens.now) }
 {
-    let (_, rest) = next(tokens, kind, kind)?;
+    let low = kind;
+    let high = kind;
+    token_in(tokens, KindRange { low, high })
+}
+
+/// What follows the next token, which is the word or the sign of this kind.
+#[tactic(auto, using(crate::proofs::Forms::one_value))]
+pub fn keyword(tokens: &[Lexeme], kind: TokenKind) -> Result<&[Lexeme], Fault>
+    ensures { Gives (λ rest. (tt, rest.now)) result (skipped kind tokens.now) }
+{
+    let (_, rest) = token_of(tokens, kind)?;
     Ok(rest)
 }
 
@@ -80,28 +100,36 @@ fn number_of(token: &Token) -> i128
     }
 }
 
+// The milliseconds of a unit; 0 of one that is not built.
 fn unit_of(unit: u8) -> u64
     ensures { result ≡ unit_of unit }
 {
-    match unit {
-        b'a' => 1,
-        b's' => 1000,
-        b'm' => 60_000,
-        b'h' => 3_600_000,
-        b'd' => 86_400_000,
-        b'w' => 604_800_000,
-        _ => 0,
+    if unit == b'a' {
+        1
+    } else if unit == b's' {
+        1000
+    } else if unit == b'm' {
+        60 * 1000
+    } else if unit == b'h' {
+        3600 * 1000
+    } else if unit == b'd' {
+        24 * 3600 * 1000
+    } else if unit == b'w' {
+        7 * 24 * 3600 * 1000
+    } else {
+        0
     }
 }
 
+// The milliseconds of a duration; one above the longest is kept as one more than that.
 fn duration_of(token: &Token) -> u64
     ensures { result ≡ duration_of token.now }
 {
     match token {
         Token::Dur { count, unit } => {
             let product = *count as u128 * unit_of(*unit) as u128;
-            if product > 315_360_000_000_000 {
-                315_360_000_000_001
+            if product > LONGEST_DURATION as u128 {
+                LONGEST_DURATION + 1
             } else {
                 product as u64
             }
@@ -115,7 +143,7 @@ fn duration_of(token: &Token) -> u64
 pub fn name(alloc: Global, tokens: &[Lexeme]) -> Result<(Name, &[Lexeme]), Fault>
     ensures { Gives (λ x. (x.0, x.1.now)) result (read (tt {0}) a_name tokens.now) }
 {
-    let (token, rest) = next(tokens, 20, 79)?;
+    let (token, rest) = token_in(tokens, NAMES)?;
     let text = word_of(alloc, &token.token)?;
     Ok((text, rest))
 }
@@ -125,25 +153,25 @@ pub fn name(alloc: Global, tokens: &[Lexeme]) -> Result<(Name, &[Lexeme]), Fault
 pub fn number(tokens: &[Lexeme]) -> Result<(i128, &[Lexeme]), Fault>
     ensures { Gives (λ x. (x.0, x.1.now)) result (read (tt {0}) a_number tokens.now) }
 {
-    let (token, rest) = next(tokens, 1, 2)?;
+    let (token, rest) = token_in(tokens, NUMBERS)?;
     Ok((number_of(&token.token), rest))
 }
 
 /// The number 0 or 1.
 #[tactic(auto, using(crate::proofs::Forms::one_value))]
-pub fn bit(tokens: &[Lexeme]) -> Result<(bool, &[Lexeme]), Fault>
+pub fn zero_or_one(tokens: &[Lexeme]) -> Result<(bool, &[Lexeme]), Fault>
     ensures { Gives (λ x. (x.0, x.1.now)) result (read (tt {0}) a_bit tokens.now) }
 {
-    let (token, rest) = next(tokens, 1, 1)?;
+    let (token, rest) = token_of(tokens, BIT)?;
     Ok((number_of(&token.token) == 1, rest))
 }
 
 /// A text in quotes.
 #[tactic(auto, using(crate::proofs::Forms::one_value))]
-pub fn text(alloc: Global, tokens: &[Lexeme]) -> Result<(Name, &[Lexeme]), Fault>
+pub fn quoted_text(alloc: Global, tokens: &[Lexeme]) -> Result<(Name, &[Lexeme]), Fault>
     ensures { Gives (λ x. (x.0, x.1.now)) result (read (tt {0}) a_text tokens.now) }
 {
-    let (token, rest) = next(tokens, 3, 3)?;
+    let (token, rest) = token_of(tokens, TEXT)?;
     let text = text_of(alloc, &token.token)?;
     Ok((text, rest))
 }
@@ -153,10 +181,11 @@ pub fn text(alloc: Global, tokens: &[Lexeme]) -> Result<(Name, &[Lexeme]), Fault
 pub fn duration(tokens: &[Lexeme]) -> Result<(u64, &[Lexeme]), Fault>
     ensures { Gives (λ x. (x.0, x.1.now)) result (read (tt {0}) a_duration tokens.now) }
 {
-    let (token, rest) = next(tokens, 4, 4)?;
+    let (token, rest) = token_of(tokens, DURATION)?;
     Ok((duration_of(&token.token), rest))
 }
 
+// Whether it is a byte of a word, and not a capital.
 fn is_folded_byte(b: u8) -> bool
     ensures { result ≡ is_folded_byte b }
 {
@@ -178,23 +207,31 @@ fn is_name(text: &[u8]) -> bool
         [] => false,
         [b, ..] => {
             let kind = kind_of_word(text);
-            (b.is_ascii_alphabetic() || *b == b'_') && is_folded(text) && 20 <= kind && kind <= 79
+            (b.is_ascii_alphabetic() || *b == b'_')
+                && is_folded(text)
+                && NAMES.low <= kind
+                && kind <= NAMES.high
         }
     }
 }
 
+// The name that these bytes are, or `x`.
 fn as_name(text: &[u8]) -> &[u8]
     ensures { result.now ≡ name_as text.now }
 {
     if is_name(text) { text } else { b"x" }
 }
 
-/// What follows the name in force.
+/// What follows the name in force. Of bytes that are no name it is `x`, as the definition has it; a name that was read is one.
 #[tactic(auto, using(crate::proofs::Forms::one_tested))]
-pub fn same<'a>(alloc: Global, name: &[u8], tokens: &'a [Lexeme]) -> Result<&'a [Lexeme], Fault>
-    ensures { Gives (λ rest. (tt, rest.now)) result (read name.now a_same tokens.now) }
+pub fn same_name<'a>(
+    alloc: Global,
+    name: &[u8],
+    tokens: &'a [Lexeme],
+) -> Result<&'a [Lexeme], Fault>
+    ensures { Gives (λ rest. (tt, rest.now)) result (read name.now the_same_name tokens.now) }
 {
-    let (token, rest) = next(tokens, 20, 79)?;
+    let (token, rest) = token_in(tokens, NAMES)?;
     let text = word_of(alloc, &token.token)?;
     if text.as_slice() == as_name(name) {
         Ok(rest)

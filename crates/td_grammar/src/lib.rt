@@ -7,17 +7,23 @@
 //! it gives exactly the grammar's trees and the first failures. A parser's function promises that it gives what `read` gives
 //! for its production.
 //!
-//! The crate has the words of the language with their kinds, the functions that read one token, and nothing of its
-//! statements. It stands on `td_layer` and `td_lex`.
+//! The crate has the words of the language with their kinds, the functions that read one token, the reader of a list whose
+//! items commas part, and nothing of the language's statements. It stands on `td_limits`, `td_layer` and `td_lex`.
 #![tactic(auto)]
 
 mod fault;
 pub mod kinds;
 mod leaves;
 mod lexemes;
+mod lists;
 mod words;
 
 pub use fault::Fault;
-pub use leaves::{bit, duration, name, next, number, same, sign, starts, text, word_of};
+pub use kinds::{KindRange, TokenKind};
+pub use leaves::{
+    duration, keyword, name, number, quoted_text, same_name, starts, starts_in, token_in, token_of,
+    word_of, zero_or_one,
+};
 pub use lexemes::Lexeme;
+pub use lists::{Listed, comma_list};
 pub use words::{kind_of, lexeme};

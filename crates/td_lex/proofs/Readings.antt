@@ -1,13 +1,17 @@
 -- Reading a text token by token, and what is answered of it.
-use Rattle.std.proofs.Common.{◌≡◌, ◌≢◌, ℕ, ◌+◌, ◌-◌, ◌<◌, ◌≤◌, true, false, ◌==◌, List, [], ◌∷◌, ◌++◌, length, take, drop, Ok, Err, refl, sym, ap, subst, ◌∙◌, arith, append_assoc, length-append}
+use Rattle.std.proofs.Common.{◌≡◌, ◌≢◌, ℕ, ◌+◌, ◌-◌, ◌<◌, ◌≤◌, true, false, ◌==◌, List, [], ◌∷◌, ◌++◌, length, take, drop, Some, Ok, Err, refl, sym, ap, subst, ◌∙◌, arith, append_assoc, length-append}
 use Rattle.std.specs.List.{prefix_len, list_all}
 use Rattle.std.proofs.lemmas.List.{take-append-drop, append-nil}
 use Rattle.td_lex.specs.declared.kinds.Token.{Token}
 use Rattle.td_lex.specs.declared.kinds.Spanned.{Spanned}
 use Rattle.td_lex.specs.declared.kinds.Stop.{Stop}
 use Rattle.td_lex.specs.declared.kinds.Stop.TheVariants.{NoForm, Wide, NoMemory}
-use Rattle.td_lex.specs.Tokens.{is_blank, BeginsNot, Stands, Reads, IsTokens, NoToken, WideFirst, FailsAt, Answers}
-use Rattle.td_lex.specs.Lexing.{Fails, token_of, fault_of}
+use Rattle.td_lex.specs.declared.kinds.LexFault.{LexFault}
+use Rattle.td_lex.specs.declared.kinds.LexFault.TheVariants.{BadToken, TooWide}
+use Rattle.td_lex.specs.declared.kinds.LexFault.TheVariants as fault
+use Rattle.td_lex.specs.Tokens.{is_blank, BeginsNot, Stands, Reads, IsTokens, NoToken, WideFirst, Answers}
+use Rattle.td_lex.specs.Laws.{StopsAt, Lexes}
+use Rattle.td_lex.specs.Lexing.{Reading, Fails, token_of}
 use Rattle.td_lex.proofs.Fronts.{all_append, front_all, rest_not}
 use Rattle.td_lex.proofs.Tells.{Tells, token_tells}
 use Rattle.td_lex.proofs.Again.{stands_again, wide_again, some_bytes}
@@ -91,7 +95,7 @@ all_read text [] ts h so_far = subst (λ us. Reads 0 text us []) (append-nil ts)
 all_read text (b ∷ bs) ts h so_far = absurd (omega arith)
 
 -- the first failure
-no_token : (rest : List ℕ) → rest ≢ [] → BeginsNot is_blank rest → token_of rest ≡ Err NoForm → NoToken rest
+pub no_token : (rest : List ℕ) → rest ≢ [] → BeginsNot is_blank rest → token_of rest ≡ Err NoForm → NoToken rest
 no_token rest some apart is = record {
   some = some;
   apart = apart;
@@ -99,10 +103,22 @@ no_token rest some apart is = record {
   not_wide = λ word after h. let other = wide_again rest word after h in cc;
 }
 
-fails : (F : List ℕ → Type 0) (text rest : List ℕ) (ts : List Spanned) (at : ℕ) → at ≡ length text - length rest → length rest ≤ length text → ((us : List Spanned) (last : List ℕ) → Reads (length text - length rest) rest us last → Reads 0 text (ts ++ us) last) → F rest → FailsAt F text at
-fails F text rest ts at is within so_far h = (ts ++ [], rest, so_far [] rest ([], refl, refl), omega arith, h)
+pub stops : (F : List ℕ → Type 0) (text rest : List ℕ) (ts : List Spanned) (at : ℕ) → at ≡ length text - length rest → length rest ≤ length text → ((us : List Spanned) (last : List ℕ) → Reads (length text - length rest) rest us last → Reads 0 text (ts ++ us) last) → F rest → StopsAt F text ts at
+stops F text rest ts at is within so_far h = (rest, subst (λ us. Reads 0 text us rest) (append-nil ts) (so_far [] rest ([], refl, refl)), omega arith, h)
 
-pub stopped : (text rest : List ℕ) (ts : List Spanned) (at : ℕ) (stop : Stop) → rest ≢ [] → BeginsNot is_blank rest → at ≡ length text - length rest → length rest ≤ length text → ((us : List Spanned) (last : List ℕ) → Reads (length text - length rest) rest us last → Reads 0 text (ts ++ us) last) → Fails stop (token_of rest) → Answers text (Err (fault_of stop at))
-stopped text rest ts at NoForm some apart is within so_far h = fails NoToken text rest ts at is within so_far (no_token rest some apart h)
-stopped text rest ts at Wide some apart is within so_far h = fails WideFirst text rest ts at is within so_far (wide rest h)
-stopped text rest ts at NoMemory some apart is within so_far h = tt
+-- what is answered, from what is read
+pub answers : (text : List ℕ) (ts : List Spanned) (why : LexFault) → Lexes text ts (Some why) → Answers text (Err why)
+answers text ts (BadToken at) (rest, reads, count, none) = (ts, rest, reads, count, none)
+answers text ts (TooWide at) (rest, reads, count, wide) = (ts, rest, reads, count, wide)
+answers text ts fault.NoMemory h = tt
+
+-- why no token was read
+pub no_form : (stop : Stop) (read : Reading) → stop ≡ NoForm → Fails stop read → read ≡ Err NoForm
+no_form NoForm read e h = h
+no_form Wide read e h = cc
+no_form NoMemory read e h = cc
+
+pub too_wide : (stop : Stop) (read : Reading) → stop ≡ Wide → Fails stop read → read ≡ Err Wide
+too_wide NoForm read e h = cc
+too_wide Wide read e h = h
+too_wide NoMemory read e h = cc

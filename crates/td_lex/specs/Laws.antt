@@ -1,8 +1,10 @@
 -- Words of the laws of tokens.
-use Rattle.std.specs.Prelude.{◌≡◌, ◌⊎◌, ℕ, ◌+◌, ◌<◌, ◌≤◌, List, [], ◌∷◌, ◌++◌, length, map, slice_range}
+use Rattle.std.specs.Prelude.{◌≡◌, ◌⊎◌, ℕ, Option, Some, None, ◌+◌, ◌<◌, ◌≤◌, List, [], ◌∷◌, ◌++◌, length, map, slice_range}
 use Rattle.td_lex.specs.declared.kinds.Token.{Token}
 use Rattle.td_lex.specs.declared.kinds.Spanned.{Spanned}
-use Rattle.td_lex.specs.Tokens.{IsToken, NoToken, WideFirst}
+use Rattle.td_lex.specs.declared.kinds.LexFault.{LexFault}
+use Rattle.td_lex.specs.declared.kinds.LexFault.TheVariants.{BadToken, TooWide, NoMemory}
+use Rattle.td_lex.specs.Tokens.{IsToken, Reads, IsTokens, NoToken, WideFirst}
 
 -- From a place on the spans are in order and within the text, and each is the text of its token.
 abbrev pub AreSpans : List ℕ → ℕ → List Spanned → Type 0
@@ -27,3 +29,14 @@ IsFront ts us = (back : List Spanned) × (us ≡ ts ++ back)
 -- Reading goes no further: the text ends, or what stands there is no token, or too wide a one.
 abbrev pub Stops : List ℕ → Type 0
 Stops text = (text ≡ []) ⊎ (NoToken text ⊎ WideFirst text)
+
+-- The text is these tokens and then, from a place on, what fails in this way.
+abbrev pub StopsAt : (List ℕ → Type 0) → List ℕ → List Spanned → ℕ → Type 0
+StopsAt F text ts at = (rest : List ℕ) × Reads 0 text ts rest × (at + length rest ≡ length text) × F rest
+
+-- what is read of a text: its tokens, or those before its first fault with that
+abbrev pub Lexes : List ℕ → List Spanned → Option LexFault → Type 0
+Lexes text ts None = IsTokens text ts
+Lexes text ts (Some (BadToken at)) = StopsAt NoToken text ts at
+Lexes text ts (Some (TooWide at)) = StopsAt WideFirst text ts at
+Lexes text ts (Some NoMemory) = ⊥

@@ -8,9 +8,6 @@ use Rattle.std.specs.Str.{is_utf8}
 use Rattle.std.specs.Str.Parse.{digits_value, signed_digits_value}
 use Rattle.td_lex.specs.declared.kinds.Token.{Token}
 use Rattle.td_lex.specs.declared.kinds.Token.TheVariants.{Word, Num, Dur, Str, Sym, Le, Ge, Ne}
-use Rattle.td_lex.specs.declared.kinds.LexFault.{LexFault}
-use Rattle.td_lex.specs.declared.kinds.LexFault.TheVariants.{BadToken, TooWide}
-use Rattle.td_lex.specs.declared.kinds.LexFault.TheVariants as fault
 use Rattle.td_lex.specs.declared.kinds.Stop.{Stop}
 use Rattle.td_lex.specs.declared.kinds.Stop.TheVariants.{NoForm, Wide, NoMemory}
 use Rattle.td_lex.specs.Tokens.{is_word_start, is_word_byte, is_sign, is_quote, is_text_byte, is_unit, is_symbol}
@@ -111,9 +108,3 @@ token_of (b ∷ bs) =
     else (if is_sign b then signed_of (b ∷ bs)
     else (if is_quote b then text_of (content_of b bs)
     else symbol_of (b ∷ bs))))
-
--- the fault of a stop at this place
-abbrev pub fault_of : Stop → ℕ → LexFault
-fault_of NoForm at = BadToken at
-fault_of Wide at = TooWide at
-fault_of NoMemory at = fault.NoMemory

@@ -2,7 +2,8 @@
 //!
 //! [`tokens`] reads a text as words, numbers, durations, texts in quotes, symbols and operators, which blanks may part.
 //! It promises that what it answers is the token grammar's answer: the tokens with their places, or the first place from
-//! the left at which no token of its form begins or a number is too wide. [`decimal`] appends the decimal text of a
+//! the left at which no token of its form begins or a number is too wide; [`tokens_and_fault`] gives the tokens before that place too.
+//! [`decimal`] appends the decimal text of a
 //! number. The grammar is stated on whole texts in `specs/Tokens.antt`. The functions of `laws.rt` do nothing: their
 //! contracts are laws of that definition. A text has one answer; it can be cut where a token ends and joined by a blank;
 //! what is printed is read back. [`timestamp`] is `td_times`'s, named here too, since a text in quotes may be one.
@@ -23,5 +24,5 @@ pub use laws::{
     cut_at_a_token, cut_before_the_rest, joined_by_a_blank, one_answer, one_front, one_token,
     printed_number, read_to_a_stop,
 };
-pub use lexer::tokens;
+pub use lexer::{Lexed, tokens, tokens_and_fault};
 pub use td_times::{TimeFault, one_time, printed_time, timestamp};

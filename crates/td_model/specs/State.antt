@@ -1,11 +1,8 @@
 -- The state of a store, and what a history of entries makes of it.
 use Rattle.std.specs.Prelude.{ℕ, ◌+◌, ◌-◌, ◌*◌, max, Bool, not, ◌&&◌, ◌==◌, nat_le, List, [], ◌∷◌, ◌++◌, take, filter, Option, Some, None, slice_set, slice_index_or}
-use Rattle.std.specs.declared.cmp.Ordering.{Ordering}
-use Rattle.std.specs.Ordering.{nat_cmp, ordering_then}
 use Rattle.std.specs.Map.{lookup}
 use Rattle.std.specs.BTreeMap.{insert_entry, is_at}
 use Rattle.td_layer.specs.declared.values.Value.{Value}
-use Rattle.td_layer.specs.declared.values.Value.TheVariants.{Null}
 use Rattle.td_layer.specs.declared.values.Key.{Key}
 use Rattle.td_layer.specs.declared.values.Row.{Row}
 use Rattle.td_model.specs.declared.catalog.TableDef.{TableDef}
@@ -13,12 +10,11 @@ use Rattle.td_model.specs.declared.history.Put.{Put}
 use Rattle.td_model.specs.declared.history.What.{What}
 use Rattle.td_model.specs.declared.history.What.TheVariants as what
 use Rattle.td_model.specs.declared.history.Entry.{Entry}
+pub use Rattle.td_layer.specs.Keys.{key_cmp}
+pub use Rattle.td_layer.specs.Parts.{over}
+use Rattle.td_layer.specs.Parts as parts
 use Rattle.td_limits.specs.declared.limits.TheConstants.{DAY_RANGE}
 use Rattle.td_model.specs.Catalog.{Catalog, empty_catalog, table_at, with_what}
-
--- keys are ordered by table, then by timestamp
-abbrev pub key_cmp : Key → Key → Ordering
-key_cmp a b = ordering_then (nat_cmp a.table b.table) (nat_cmp a.ts b.ts)
 
 -- rows by key, in the order of the keys, each key once
 abbrev pub Rows : Type 0
@@ -49,18 +45,9 @@ pub record State : Type 0 where
 abbrev pub empty_state : State
 empty_state = record { version = 0; moment = 0; catalog = empty_catalog; stable_latest = []; table_latest = []; rows = []; edge = 0; halt = None }
 
--- named values over a row's values; where there is no value below, a column that isn't named is NULL
-abbrev pub over : List (Option Value) → List Value → List Value
-over [] vs = []
-over (Some v ∷ cs) [] = v ∷ over cs []
-over (None ∷ cs) [] = Null ∷ over cs []
-over (Some v ∷ cs) (w ∷ ws) = v ∷ over cs ws
-over (None ∷ cs) (w ∷ ws) = w ∷ over cs ws
-
 -- Cells laid over the row that is there. A new row is born at the moment, and a row that is there keeps its birth.
 abbrev pub lay : List (Option Value) → ℕ → Option Row → Row
-lay cells moment None = record { birth = record { born = moment }; values = over cells [] }
-lay cells moment (Some row) = record { birth = row.birth; values = over cells row.values }
+lay cells moment row = parts.lay (record { birth = record { born = moment }; cells = cells }) row
 
 abbrev pub later : Option ℕ → ℕ → Option ℕ
 later None ts = Some ts

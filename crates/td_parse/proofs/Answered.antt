@@ -1,25 +1,24 @@
 -- What is answered of a text, as its branches have it.
-use Rattle.std.proofs.Common.{◌≡◌, ℕ, ◌≤◌, List, length, take, inl, inr, subst, arith}
+use Rattle.std.proofs.Common.{◌≡◌, ℕ, ◌≤◌, List, length, Some, None, ◌⊎◌, inl, inr, subst}
+use Rattle.td_limits.specs.declared.limits.TheConstants.{STATEMENT_BYTES}
 use Rattle.td_lex.specs.declared.kinds.Spanned.{Spanned}
-use Rattle.td_lex.specs.Tokens.{IsTokens, NoToken, WideFirst, FailsAt as FailsInText}
+use Rattle.td_lex.specs.declared.kinds.LexFault.TheVariants.{BadToken, TooWide}
+use Rattle.td_lex.specs.Laws.{Lexes}
 use Rattle.td_model.specs.declared.language.Stmt.{Stmt}
-use Rattle.td_parse.specs.Statements.{OfTokens, OfFront, IsAnswer}
+use Rattle.td_grammar.specs.declared.lexemes.Lexeme.{Lexeme}
+use Rattle.td_parse.specs.Statements.{lexemes, places, OfTokens, OfFront, IsAnswer}
 use Rattle.td_parse.proofs.Texts.{of_all, of_part}
 
-pub answer_of_all : (text : List ℕ) (ts : List Spanned) (end : ℕ) (answer : Stmt) → length text ≤ 1048576 → IsTokens text ts → end ≡ length text → OfTokens ts end answer → IsAnswer text answer
-answer_of_all text ts end answer few h is a = inr (few, of_all text ts answer h (subst (λ n. OfTokens ts n answer) is a))
+pub answer_of_all : (text : List ℕ) (ts : List Spanned) (ls : List Lexeme) (ats : List ℕ) (answer : Stmt) → length text ≤ STATEMENT_BYTES → Lexes text ts None → ls ≡ lexemes ts → ats ≡ places ts → OfTokens ls ats (length text) answer → IsAnswer text answer
+answer_of_all text ts ls ats answer few h is at a =
+    inr (few, of_all text ts answer h (subst (λ us. OfTokens (lexemes ts) us (length text) answer) at (subst (λ us. OfTokens us ats (length text) answer) is a)))
 
-abbrev pub Before : List ℕ → ℕ → Stmt → Type 0
-Before text at answer = (ts : List Spanned) × IsTokens (take at text) ts × OfFront ts at answer
+pub answer_of_front : (text : List ℕ) (ts : List Spanned) (place : ℕ) (ls : List Lexeme) (ats : List ℕ) (answer : Stmt) → length text ≤ STATEMENT_BYTES → Lexes text ts (Some (BadToken place)) ⊎ Lexes text ts (Some (TooWide place)) → ls ≡ lexemes ts → ats ≡ places ts → OfFront ls ats place answer → IsAnswer text answer
+answer_of_front text ts place ls ats answer few which is at a = go which
+  where
+    front : OfFront (lexemes ts) (places ts) place answer
+    front = subst (λ us. OfFront (lexemes ts) us place answer) at (subst (λ us. OfFront us ats place answer) is a)
 
-pub answer_without : (text : List ℕ) (at : ℕ) (answer : Stmt) → length text ≤ 1048576 → FailsInText NoToken text at → Before text at answer → IsAnswer text answer
-answer_without text at answer few (ts, rest, reads, count, bad) (us, tokens, front) = inr (few, inr (of_part text rest ts us at answer reads count (inl bad) tokens front))
-
-pub answer_too_wide : (text : List ℕ) (at : ℕ) (answer : Stmt) → length text ≤ 1048576 → FailsInText WideFirst text at → Before text at answer → IsAnswer text answer
-answer_too_wide text at answer few (ts, rest, reads, count, bad) (us, tokens, front) = inr (few, inr (of_part text rest ts us at answer reads count (inr bad) tokens front))
-
-pub without_within : (text : List ℕ) (at : ℕ) → FailsInText NoToken text at → at ≤ length text
-without_within text at (ts, rest, reads, count, bad) = omega (arith, count)
-
-pub too_wide_within : (text : List ℕ) (at : ℕ) → FailsInText WideFirst text at → at ≤ length text
-too_wide_within text at (ts, rest, reads, count, bad) = omega (arith, count)
+    go : Lexes text ts (Some (BadToken place)) ⊎ Lexes text ts (Some (TooWide place)) → IsAnswer text answer
+    go (inl (rest, reads, count, bad)) = inr (few, inr (of_part text rest ts place answer reads count (inl bad) front))
+    go (inr (rest, reads, count, bad)) = inr (few, inr (of_part text rest ts place answer reads count (inr bad) front))

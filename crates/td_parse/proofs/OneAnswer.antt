@@ -1,13 +1,13 @@
 -- A text has one answer.
-use Rattle.std.proofs.Common.{◌≡◌, ◌≢◌, ℕ, ◌+◌, ◌<◌, ◌≤◌, true, false, List, [], ◌∷◌, ◌++◌, length, Result, Ok, Err, ◌⊎◌, inl, inr, refl, sym, ap, subst, ◌∙◌, arith, append_assoc}
+use Rattle.std.proofs.Common.{◌≡◌, ◌≢◌, ℕ, ◌+◌, ◌<◌, ◌≤◌, List, [], ◌∷◌, ◌++◌, length, Result, Ok, Err, ◌⊎◌, inl, inr, refl, sym, ap, subst, ◌∙◌, arith, append_assoc}
 use Rattle.std.proofs.lemmas.List.{append-nil, map-append}
-use Rattle.td_lex.specs.declared.kinds.Token.{Token}
 use Rattle.td_lex.specs.declared.kinds.Spanned.{Spanned}
 use Rattle.td_lex.specs.declared.kinds.LexFault.{LexFault}
 use Rattle.td_lex.specs.declared.kinds.LexFault.TheVariants.{BadToken, TooWide, NoMemory}
 use Rattle.td_lex.specs.Laws.{IsFront, Stops}
 use Rattle.td_lex.specs.Tokens.{Reads, IsTokens, NoToken, WideFirst, Answers as LexAnswers}
 use Rattle.td_lex.proofs.LawsOfTokens.{one_answer as one_lexing, one_front, read_to_a_stop}
+use Rattle.td_limits.specs.declared.limits.TheConstants.{STATEMENT_BYTES}
 use Rattle.td_model.specs.declared.report.Cause.{Cause}
 use Rattle.td_model.specs.declared.report.Cause.TheVariants.{Syntax}
 use Rattle.td_model.specs.declared.language.Stmt.{Stmt}
@@ -145,18 +145,15 @@ one_parsed : (text : List ℕ) (a b : Stmt) → Parsed text a → Parsed text b 
 one_parsed text a b (ts, tree, tokens, d, v) (us, other, again, k, w) =
     let same : us ≡ ts = one_list text ts us tokens again in
     let trees : tree ≡ other = one_tree (lexemes ts) tree other d (subst (λ vs. IsStatement (lexemes vs) other) same k) in
-    v ∙ ap (λ q. judged ts q) trees ∙ ap (λ vs. judged vs other) (sym same) ∙ sym w
+    v ∙ ap (λ q. judged (lexemes ts) q) trees ∙ ap (λ vs. judged (lexemes vs) other) (sym same) ∙ sym w
+
+too_long : (text : List ℕ) → STATEMENT_BYTES < length text → length text ≤ STATEMENT_BYTES → ⊥
+too_long text long few = omega (arith, long, few)
 
 pub one_answer : (text : List ℕ) (a b : Stmt) → IsAnswer text a → IsAnswer text b → a ≡ b
 one_answer text a b (inl (long, v)) (inl (far, w)) = v ∙ sym w
-one_answer text a b (inl (long, v)) (inr (few, y)) = absurd (too_long long few)
-  where
-    too_long : 1048576 < length text → length text ≤ 1048576 → ⊥
-    too_long long few = omega (arith, long, few)
-one_answer text a b (inr (few, x)) (inl (long, w)) = absurd (too_long long few)
-  where
-    too_long : 1048576 < length text → length text ≤ 1048576 → ⊥
-    too_long long few = omega (arith, long, few)
+one_answer text a b (inl (long, v)) (inr (few, y)) = absurd (too_long text long few)
+one_answer text a b (inr (few, x)) (inl (long, w)) = absurd (too_long text long few)
 one_answer text a b (inr (few, inl p)) (inr (short, inl q)) = one_parsed text a b p q
 one_answer text a b (inr (few, inl p)) (inr (short, inr q)) = absurd (parsed_or_refused text a b p q)
 one_answer text a b (inr (few, inr p)) (inr (short, inl q)) = absurd (parsed_or_refused text b a q p)

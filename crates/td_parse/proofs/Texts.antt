@@ -1,19 +1,19 @@
 -- What is answered of a text, from what is answered of its tokens.
-use Rattle.std.proofs.Common.{◌≡◌, ◌≢◌, ℕ, ◌+◌, ◌-◌, Bool, List, [], ◌∷◌, ◌++◌, length, take, drop, Result, Ok, Err, ◌⊎◌, inl, inr, refl, sym, ap, subst, ◌∙◌, arith, append_assoc, le_refl}
-use Rattle.std.proofs.lemmas.List.{append-nil, length-append, length-map, map-append, take-append-le, take_all}
+use Rattle.std.proofs.Common.{◌≡◌, ◌≢◌, ℕ, ◌+◌, ◌-◌, List, [], ◌∷◌, ◌++◌, length, drop, Result, Ok, Err, ◌⊎◌, inl, inr, refl, sym, ap, subst, ◌∙◌, arith, append_assoc}
+use Rattle.std.proofs.lemmas.List.{append-nil, length-append, length-map, map-append, drop-map}
 use Rattle.std.proofs.Math.Seq.{drop-append_seam}
 use Rattle.td_lex.specs.declared.kinds.Spanned.{Spanned}
 use Rattle.td_lex.specs.declared.kinds.LexFault.{LexFault}
 use Rattle.td_lex.specs.declared.kinds.LexFault.TheVariants.{NoMemory}
 use Rattle.td_lex.specs.Tokens.{Reads, IsTokens, NoToken, WideFirst}
-use Rattle.td_lex.proofs.LawsOfTokens.{one_answer, cut_before_the_rest}
+use Rattle.td_lex.proofs.LawsOfTokens.{one_answer}
+use Rattle.td_model.specs.declared.report.Cause.{Cause}
 use Rattle.td_model.specs.declared.report.Cause.TheVariants.{Syntax}
 use Rattle.td_model.specs.declared.language.Stmt.{Stmt}
-use Rattle.td_model.specs.declared.language.Stmt.TheVariants as stmt
 use Rattle.td_grammar.specs.declared.lexemes.Lexeme.{Lexeme}
 use Rattle.td_grammar.specs.Kinds.{lexeme_of}
 use Rattle.td_grammar.specs.Grammar.{Begins, Ends, FailsAt}
-use Rattle.td_parse.specs.Statements.{lexemes, IsStatement, BeginsStatement, cause_by, Fails, Parsed, Refused, cause_of_rest, cause_of, OfTokens, OfFront}
+use Rattle.td_parse.specs.Statements.{lexemes, places, IsStatement, BeginsStatement, cause_by, Fails, Parsed, Refused, cause_of_rest, cause_of, OfTokens, OfFront}
 
 abbrev first_or : Lexeme → List Lexeme → Lexeme
 first_or d [] = d
@@ -63,10 +63,21 @@ pub one_list : (text : List ℕ) (ts us : List Spanned) → IsTokens text ts →
 one_list text ts us h i = ap (tokens_in us) (one_answer text (Ok us) (Ok ts) (no_fault us) (no_fault ts) i h)
 
 -- the tokens that are left at a failure
-drop_front : (a b : List Spanned) (left : ℕ) → left ≡ length b → drop (length (a ++ b) - left) (a ++ b) ≡ b
+drop_front : (a b : List Spanned) (left : ℕ) → left ≡ length b → drop (length (lexemes (a ++ b)) - left) (a ++ b) ≡ b
 drop_front a b left h =
-    let n : length (a ++ b) - left ≡ length a = omega (arith, length-append a b) in
+    let n : length (lexemes (a ++ b)) - left ≡ length a = omega (arith, length-map (a ++ b) (λ t. lexeme_of t.token), length-append a b) in
     rw n (drop-append_seam a b)
+
+-- the cause of what is left
+abbrev cause_left : List Spanned → ℕ → Cause
+cause_left ts end = cause_of_rest (lexemes ts) (places ts) end
+
+cause_is : (a b : List Spanned) (left end : ℕ) → left ≡ length b → cause_of (lexemes (a ++ b)) (places (a ++ b)) left end ≡ cause_left b end
+cause_is a b left end h =
+    let n : ℕ = length (lexemes (a ++ b)) - left in
+    ap (λ ls. cause_of_rest ls (drop n (places (a ++ b))) end) (drop-map (λ t. lexeme_of t.token) n (a ++ b))
+    ∙ ap (λ ats. cause_of_rest (lexemes (drop n (a ++ b))) ats end) (drop-map (λ t. t.at) n (a ++ b))
+    ∙ ap (λ ts. cause_left ts end) (drop_front a b left h)
 
 token_fails : (text rest : List ℕ) (x : List Spanned) (t : Spanned) (y : List Spanned) → Reads 0 text (x ++ t ∷ y) rest → BeginsStatement (lexemes x) → (BeginsStatement (lexemes (x ++ t ∷ [])) → ⊥) → Fails text (cause_by t)
 token_fails text rest x t y h begins none =
@@ -76,14 +87,14 @@ token_fails text rest x t y h begins none =
 
 -- a failure, where it is known what stands where all tokens are a front of some statement
 failed : (text rest : List ℕ) (ts : List Spanned) (end left : ℕ) → Reads 0 text ts rest → FailsAt IsStatement (lexemes ts) left
-    → (((tree : Stmt) → IsStatement (lexemes ts) tree → ⊥) → BeginsStatement (lexemes ts) → Fails text (Syntax end)) → Fails text (cause_of ts left end)
+    → (((tree : Stmt) → IsStatement (lexemes ts) tree → ⊥) → BeginsStatement (lexemes ts) → Fails text (Syntax end)) → Fails text (cause_of (lexemes ts) (places ts) left end)
 failed text rest ts end left h (front, back, parts, count, begins, ends) at_end =
     let p = parted ts front back parts in
     let n : left ≡ length p.back = count ∙ ap length (sym p.is_back) ∙ length-map p.back (λ t. lexeme_of t.token) in
-    let same : cause_of ts left end ≡ cause_of_rest p.back end = ap (λ us. cause_of us left end) p.parts ∙ ap (λ us. cause_of_rest us end) (drop_front p.front p.back left n) in
+    let same : cause_of (lexemes ts) (places ts) left end ≡ cause_left p.back end = ap (λ us. cause_of (lexemes us) (places us) left end) p.parts ∙ cause_is p.front p.back left end n in
     subst (λ c. Fails text c) (sym same) (go p.front p.back p.parts p.is_front p.is_back)
   where
-    go : (x y : List Spanned) → ts ≡ x ++ y → lexemes x ≡ front → lexemes y ≡ back → Fails text (cause_of_rest y end)
+    go : (x y : List Spanned) → ts ≡ x ++ y → lexemes x ≡ front → lexemes y ≡ back → Fails text (cause_left y end)
     go x [] is isx isy =
         let all : lexemes ts ≡ front = ap lexemes (is ∙ append-nil x) ∙ isx in
         let none : (tree : Stmt) → IsStatement front tree → ⊥ = subst (λ b. Ends IsStatement front b) (sym isy) ends in
@@ -93,24 +104,16 @@ failed text rest ts end left h (front, back, parts, count, begins, ends) at_end 
         let same : lexemes (x ++ t ∷ []) ≡ front ++ lexeme_of t.token ∷ [] = map-append (λ u. lexeme_of u.token) x (t ∷ []) ∙ ap (λ f. f ++ lexeme_of t.token ∷ []) isx in
         token_fails text rest x t y (subst (λ us. Reads 0 text us rest) is h) (subst (λ us. BeginsStatement us) (sym isx) begins) (λ b. none (subst (λ us. BeginsStatement us) same b))
 
-pub of_all : (text : List ℕ) (ts : List Spanned) (answer : Stmt) → IsTokens text ts → OfTokens ts (length text) answer → Parsed text answer ⊎ Refused text answer
+pub of_all : (text : List ℕ) (ts : List Spanned) (answer : Stmt) → IsTokens text ts → OfTokens (lexemes ts) (places ts) (length text) answer → Parsed text answer ⊎ Refused text answer
 of_all text ts answer h (inl (tree, d, value)) = inl (ts, tree, h, d, value)
 of_all text ts answer h (inr (left, fails, value)) =
-    inr (cause_of ts left (length text), failed text [] ts (length text) left h fails (λ none begins. (ts, [], h, begins, inl (refl, none, refl))), value)
+    inr (cause_of (lexemes ts) (places ts) left (length text), failed text [] ts (length text) left h fails (λ none begins. (ts, [], h, begins, inl (refl, none, refl))), value)
 
 pub whole_begins : (ts : List Spanned) (tree : Stmt) → IsStatement (lexemes ts) tree → BeginsStatement (lexemes ts)
 whole_begins ts tree d = ([], tree, tt, subst (λ us. IsStatement us tree) (sym (append-nil (lexemes ts))) d)
 
 -- no token stands at this place
-stopped : (text rest : List ℕ) (ts us : List Spanned) (at : ℕ) (answer : Stmt) → Reads 0 text ts rest → at + length rest ≡ length text → NoToken rest ⊎ WideFirst rest → us ≡ ts → OfFront us at answer → Refused text answer
-stopped text rest ts us at answer h count bad is (inl (tree, d, value)) =
-    (Syntax at, (ts, rest, h, whole_begins ts tree (subst (λ vs. IsStatement (lexemes vs) tree) is d), inr (inr (bad, at, count, refl))), value)
-stopped text rest ts us at answer h count bad is (inr (left, fails, value)) = (
-  cause_of ts left at,
-  failed text rest ts at left h (subst (λ vs. FailsAt IsStatement (lexemes vs) left) is fails) (λ none begins. (ts, rest, h, begins, inr (inr (bad, at, count, refl)))),
-  value ∙ ap (λ vs. stmt.Wrong (cause_of vs left at)) is,
-)
-
-pub of_part : (text rest : List ℕ) (ts us : List Spanned) (at : ℕ) (answer : Stmt) → Reads 0 text ts rest → at + length rest ≡ length text → NoToken rest ⊎ WideFirst rest → IsTokens (take at text) us → OfFront us at answer → Refused text answer
-of_part text rest ts us at answer h count bad tokens of_front =
-    stopped text rest ts us at answer h count bad (one_list (take at text) ts us (cut_before_the_rest text rest ts at h count) tokens) of_front
+pub of_part : (text rest : List ℕ) (ts : List Spanned) (at : ℕ) (answer : Stmt) → Reads 0 text ts rest → at + length rest ≡ length text → NoToken rest ⊎ WideFirst rest → OfFront (lexemes ts) (places ts) at answer → Refused text answer
+of_part text rest ts at answer h count bad (inl (tree, d, value)) = (Syntax at, (ts, rest, h, whole_begins ts tree d, inr (inr (bad, at, count, refl))), value)
+of_part text rest ts at answer h count bad (inr (left, fails, value)) =
+    (cause_of (lexemes ts) (places ts) left at, failed text rest ts at left h fails (λ none begins. (ts, rest, h, begins, inr (inr (bad, at, count, refl)))), value)

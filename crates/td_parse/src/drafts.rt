@@ -13,7 +13,7 @@ pub(crate) enum Body {
 
 // One option of a stream.
 #[derive(Clone, Copy)]
-pub(crate) enum Choice {
+pub(crate) enum StreamOption {
     Trigger(Trigger),
     Watermark(u64),
     Expired(bool),

@@ -1,27 +1,30 @@
 //! Types, columns and tags, and the tables that are made of them.
-ghost use Rattle.std.specs.Prelude.{◌≡◌, ◌++◌, OnOk, IfOk, [], ◌∷◌};
-ghost use Rattle.td_grammar.specs.Grammar.{read, begun};
-ghost use Rattle.td_grammar.specs.Grammar.{starts as starts_with};
+ghost use Rattle.std.specs.Prelude.{◌≡◌};
+ghost use Rattle.td_grammar.specs.Grammar.{read};
 ghost use Rattle.td_grammar.specs.Gives.{Gives};
-ghost use Rattle.td_parse.specs.Productions.{column as prod_column, column_kind as prod_column_kind, column_list as prod_column_list, columns as prod_columns, further_column as prod_further_column, further_tag as prod_further_tag, later_tag_kind as prod_later_tag_kind, long_width as prod_long_width, of_stable as prod_of_stable, own_columns as prod_own_columns, sizes as prod_sizes, stable as prod_stable, table as prod_table, table_body as prod_table_body, tag as prod_tag, tag_kind as prod_tag_kind, tag_list as prod_tag_list, tags as prod_tags, text_kind as prod_text_kind, whole_number as prod_whole_number, width as prod_width};
-ghost use Rattle.td_parse.specs.Productions.{size_of, table_of, not_built_by};
+ghost use Rattle.td_parse.specs.Productions.{column as prod_column, column_kind as prod_column_kind, columns as prod_columns, later_tag_kind as prod_later_tag_kind, long_width as prod_long_width, of_stable as prod_of_stable, own_columns as prod_own_columns, sizes as prod_sizes, stable as prod_stable, table as prod_table, table_body as prod_table_body, tag as prod_tag, tag_kind as prod_tag_kind, tags as prod_tags, text_kind as prod_text_kind, whole_number as prod_whole_number, width as prod_width};
+ghost use Rattle.td_parse.specs.Productions.{size_of, table_of, not_built_in};
 
 use crate::drafts::Body;
 use std::alloc::Global;
 use td_clauses::literal_list;
-use td_grammar::{Fault, Lexeme, kinds, name, next, number, sign, starts};
+use td_grammar::{
+    Fault, KindRange, Lexeme, Listed, comma_list, keyword, kinds, name, number, starts, starts_in,
+    token_in,
+};
 use td_layer::{Name, Seq};
 use td_model::{Column, Kind, Stmt};
 
+// INT | BIGINT, with and without sign
 #[tactic(auto, using(td_grammar::proofs::Forms::value_itself), unfolding(crate::specs::Productions::long_width))]
 fn long_width(tokens: &[Lexeme]) -> Result<((Kind, Kind), &[Lexeme]), Fault>
     ensures { Gives (λ x. (x.0, x.1.now)) result (read (tt {0}) prod_long_width tokens.now) }
 {
-    if starts(tokens, kinds::INT, kinds::INT) {
-        let rest = sign(tokens, kinds::INT)?;
+    if starts(tokens, kinds::INT) {
+        let rest = keyword(tokens, kinds::INT)?;
         Ok(((Kind::I32, Kind::U32), rest))
     } else {
-        let rest = sign(tokens, kinds::BIGINT)?;
+        let rest = keyword(tokens, kinds::BIGINT)?;
         Ok(((Kind::I64, Kind::U64), rest))
     }
 }
@@ -31,25 +34,25 @@ fn long_width(tokens: &[Lexeme]) -> Result<((Kind, Kind), &[Lexeme]), Fault>
 fn width(tokens: &[Lexeme]) -> Result<((Kind, Kind), &[Lexeme]), Fault>
     ensures { Gives (λ x. (x.0, x.1.now)) result (read (tt {0}) prod_width tokens.now) }
 {
-    if starts(tokens, kinds::TINYINT, kinds::TINYINT) {
-        let rest = sign(tokens, kinds::TINYINT)?;
+    if starts(tokens, kinds::TINYINT) {
+        let rest = keyword(tokens, kinds::TINYINT)?;
         Ok(((Kind::I8, Kind::U8), rest))
-    } else if starts(tokens, kinds::SMALLINT, kinds::SMALLINT) {
-        let rest = sign(tokens, kinds::SMALLINT)?;
+    } else if starts(tokens, kinds::SMALLINT) {
+        let rest = keyword(tokens, kinds::SMALLINT)?;
         Ok(((Kind::I16, Kind::U16), rest))
     } else {
-        let (widths, rest) = long_width(tokens)?;
-        Ok((widths, rest))
+        long_width(tokens)
     }
 }
 
+// ( TINYINT | SMALLINT | INT | BIGINT ) [ UNSIGNED ]
 #[tactic(auto, using(td_grammar::proofs::Forms::value_itself), unfolding(crate::specs::Productions::whole_number))]
 fn whole_number(tokens: &[Lexeme]) -> Result<(Kind, &[Lexeme]), Fault>
     ensures { Gives (λ x. (x.0, x.1.now)) result (read (tt {0}) prod_whole_number tokens.now) }
 {
     let ((signed, unsigned), rest) = width(tokens)?;
-    if starts(rest, kinds::UNSIGNED, kinds::UNSIGNED) {
-        let rest = sign(rest, kinds::UNSIGNED)?;
+    if starts(rest, kinds::UNSIGNED) {
+        let rest = keyword(rest, kinds::UNSIGNED)?;
         Ok((unsigned, rest))
     } else {
         Ok((signed, rest))
@@ -61,48 +64,45 @@ fn whole_number(tokens: &[Lexeme]) -> Result<(Kind, &[Lexeme]), Fault>
 fn sizes(tokens: &[Lexeme]) -> Result<&[Lexeme], Fault>
     ensures { Gives (λ rest. (tt, rest.now)) result (read (tt {0}) prod_sizes tokens.now) }
 {
-    if !starts(tokens, kinds::OPEN_PAREN, kinds::OPEN_PAREN) {
+    if !starts(tokens, kinds::OPEN_PAREN) {
         return Ok(tokens);
     }
-    let rest = sign(tokens, kinds::OPEN_PAREN)?;
+    let rest = keyword(tokens, kinds::OPEN_PAREN)?;
     let (_, rest) = number(rest)?;
-    if starts(rest, kinds::COMMA, kinds::COMMA) {
-        let rest = sign(rest, kinds::COMMA)?;
+    if starts(rest, kinds::COMMA) {
+        let rest = keyword(rest, kinds::COMMA)?;
         let (_, rest) = number(rest)?;
-        let rest = sign(rest, kinds::CLOSE_PAREN)?;
-        Ok(rest)
+        keyword(rest, kinds::CLOSE_PAREN)
     } else {
-        let rest = sign(rest, kinds::CLOSE_PAREN)?;
-        Ok(rest)
+        keyword(rest, kinds::CLOSE_PAREN)
     }
 }
 
 // The word of a type that is not built, and its sizes.
 #[tactic(auto, using(td_grammar::proofs::Forms::value_itself, td_grammar::proofs::Forms::one_value))]
-fn not_built(tokens: &[Lexeme], last: u8) -> Result<&[Lexeme], Fault>
-    ensures { Gives (λ rest. (tt, rest.now)) result (not_built_by last tokens.now) }
+fn not_built(tokens: &[Lexeme], range: KindRange) -> Result<&[Lexeme], Fault>
+    ensures { Gives (λ rest. (tt, rest.now)) result (not_built_in range tokens.now) }
 {
-    let (_, rest) = next(tokens, kinds::NOT_BUILT_TYPE, last)?;
-    let rest = sizes(rest)?;
-    Ok(rest)
+    let (_, rest) = token_in(tokens, range)?;
+    sizes(rest)
 }
 
+// BOOL | TIMESTAMP | whole number | a type that is not built
 #[tactic(auto, using(td_grammar::proofs::Forms::value_itself), unfolding(crate::specs::Productions::column_kind))]
 fn column_kind(tokens: &[Lexeme]) -> Result<(Kind, &[Lexeme]), Fault>
     ensures { Gives (λ x. (x.0, x.1.now)) result (read (tt {0}) prod_column_kind tokens.now) }
 {
-    if starts(tokens, kinds::BOOL, kinds::BOOL) {
-        let rest = sign(tokens, kinds::BOOL)?;
+    if starts(tokens, kinds::BOOL) {
+        let rest = keyword(tokens, kinds::BOOL)?;
         Ok((Kind::Bool, rest))
-    } else if starts(tokens, kinds::TIMESTAMP, kinds::TIMESTAMP) {
-        let rest = sign(tokens, kinds::TIMESTAMP)?;
+    } else if starts(tokens, kinds::TIMESTAMP) {
+        let rest = keyword(tokens, kinds::TIMESTAMP)?;
         Ok((Kind::Time, rest))
-    } else if starts(tokens, kinds::NOT_BUILT_TYPE, kinds::VARCHAR) {
-        let rest = not_built(tokens, kinds::VARCHAR)?;
+    } else if starts_in(tokens, kinds::NOT_BUILT_TYPES) {
+        let rest = not_built(tokens, kinds::NOT_BUILT_TYPES)?;
         Ok((Kind::Wide, rest))
     } else {
-        let (kind, rest) = whole_number(tokens)?;
-        Ok((kind, rest))
+        whole_number(tokens)
     }
 }
 
@@ -113,49 +113,51 @@ fn size_of(n: i128) -> u16
     if 0 <= n && n <= 65_535 { n as u16 } else { 0 }
 }
 
+// ( VARCHAR | BINARY ) ( Num )
 #[tactic(auto, using(td_grammar::proofs::Forms::value_itself), unfolding(crate::specs::Productions::text_kind))]
 fn text_kind(tokens: &[Lexeme]) -> Result<(Kind, &[Lexeme]), Fault>
     ensures { Gives (λ x. (x.0, x.1.now)) result (read (tt {0}) prod_text_kind tokens.now) }
 {
-    let rest = sign(tokens, kinds::VARCHAR)?;
-    let rest = sign(rest, kinds::OPEN_PAREN)?;
+    let rest = keyword(tokens, kinds::VARCHAR)?;
+    let rest = keyword(rest, kinds::OPEN_PAREN)?;
     let (n, rest) = number(rest)?;
-    let rest = sign(rest, kinds::CLOSE_PAREN)?;
+    let rest = keyword(rest, kinds::CLOSE_PAREN)?;
     Ok((Kind::Text(size_of(n)), rest))
 }
 
+// ( VARCHAR | BINARY ) ( Num ) | whole number
 #[tactic(auto, using(td_grammar::proofs::Forms::value_itself, crate::proofs::Starts::starts_text_kind), unfolding(crate::specs::Productions::later_tag_kind))]
 fn later_tag_kind(tokens: &[Lexeme]) -> Result<(Kind, &[Lexeme]), Fault>
     ensures { Gives (λ x. (x.0, x.1.now)) result (read (tt {0}) prod_later_tag_kind tokens.now) }
 {
-    if starts(tokens, kinds::VARCHAR, kinds::VARCHAR) {
-        let (kind, rest) = text_kind(tokens)?;
-        Ok((kind, rest))
+    if starts(tokens, kinds::VARCHAR) {
+        text_kind(tokens)
     } else {
-        let (kind, rest) = whole_number(tokens)?;
-        Ok((kind, rest))
+        whole_number(tokens)
     }
 }
 
+// BOOL | TIMESTAMP | whole number | text | a type that is not built
 #[tactic(auto, using(td_grammar::proofs::Forms::value_itself), unfolding(crate::specs::Productions::tag_kind))]
 fn tag_kind(tokens: &[Lexeme]) -> Result<(Kind, &[Lexeme]), Fault>
     ensures { Gives (λ x. (x.0, x.1.now)) result (read (tt {0}) prod_tag_kind tokens.now) }
 {
-    if starts(tokens, kinds::BOOL, kinds::BOOL) {
-        let rest = sign(tokens, kinds::BOOL)?;
+    if starts(tokens, kinds::BOOL) {
+        let rest = keyword(tokens, kinds::BOOL)?;
         Ok((Kind::Bool, rest))
-    } else if starts(tokens, kinds::TIMESTAMP, kinds::TIMESTAMP) {
-        let rest = sign(tokens, kinds::TIMESTAMP)?;
+    } else if starts(tokens, kinds::TIMESTAMP) {
+        let rest = keyword(tokens, kinds::TIMESTAMP)?;
         Ok((Kind::Time, rest))
-    } else if starts(tokens, kinds::NOT_BUILT_TYPE, kinds::NOT_BUILT_TYPE) {
-        let rest = not_built(tokens, kinds::NOT_BUILT_TYPE)?;
+    } else if starts(tokens, kinds::NOT_BUILT_TYPE) {
+        let rest = keyword(tokens, kinds::NOT_BUILT_TYPE)?;
+        let rest = sizes(rest)?;
         Ok((Kind::Wide, rest))
     } else {
-        let (kind, rest) = later_tag_kind(tokens)?;
-        Ok((kind, rest))
+        later_tag_kind(tokens)
     }
 }
 
+// name type, of a column
 #[tactic(auto, using(td_grammar::proofs::Forms::value_itself), unfolding(crate::specs::Productions::column))]
 fn column(alloc: Global, tokens: &[Lexeme]) -> Result<(Column, &[Lexeme]), Fault>
     ensures { Gives (λ x. (x.0, x.1.now)) result (read (tt {0}) prod_column tokens.now) }
@@ -165,30 +167,7 @@ fn column(alloc: Global, tokens: &[Lexeme]) -> Result<(Column, &[Lexeme]), Fault
     Ok((Column { name, kind }, rest))
 }
 
-#[tactic(auto, using(td_grammar::proofs::Forms::value_itself), unfolding(crate::specs::Productions::further_column))]
-fn further_column(alloc: Global, tokens: &[Lexeme]) -> Result<(Column, &[Lexeme]), Fault>
-    ensures { Gives (λ x. (x.0, x.1.now)) result (read (tt {0}) prod_further_column tokens.now) }
-{
-    let rest = sign(tokens, kinds::COMMA)?;
-    let (item, rest) = column(alloc, rest)?;
-    Ok((item, rest))
-}
-
-fn column_list(alloc: Global, tokens: &[Lexeme]) -> Result<(Seq<Column>, &[Lexeme]), Fault>
-    ensures { Gives (λ x. (x.0, x.1.now)) result (read (tt {0}) prod_column_list tokens.now) }
-{
-    let (head, after) = column(alloc, tokens)?;
-    let mut all = Vec::new(alloc);
-    all.push(head)?;
-    let mut rest = after;
-    while starts(rest, kinds::COMMA, kinds::COMMA) {
-        let (item, after) = further_column(alloc, rest)?;
-        all.push(item)?;
-        rest = after;
-    }
-    Ok((Seq::from_vec(alloc, all), rest))
-}
-
+// name type, of a tag
 #[tactic(auto, using(td_grammar::proofs::Forms::value_itself), unfolding(crate::specs::Productions::tag))]
 fn tag(alloc: Global, tokens: &[Lexeme]) -> Result<(Column, &[Lexeme]), Fault>
     ensures { Gives (λ x. (x.0, x.1.now)) result (read (tt {0}) prod_tag tokens.now) }
@@ -198,59 +177,72 @@ fn tag(alloc: Global, tokens: &[Lexeme]) -> Result<(Column, &[Lexeme]), Fault>
     Ok((Column { name, kind }, rest))
 }
 
-#[tactic(auto, using(td_grammar::proofs::Forms::value_itself), unfolding(crate::specs::Productions::further_tag))]
-fn further_tag(alloc: Global, tokens: &[Lexeme]) -> Result<(Column, &[Lexeme]), Fault>
-    ensures { Gives (λ x. (x.0, x.1.now)) result (read (tt {0}) prod_further_tag tokens.now) }
-{
-    let rest = sign(tokens, kinds::COMMA)?;
-    let (item, rest) = tag(alloc, rest)?;
-    Ok((item, rest))
-}
+// Columns in parentheses.
+struct ColumnList;
 
-fn tag_list(alloc: Global, tokens: &[Lexeme]) -> Result<(Seq<Column>, &[Lexeme]), Fault>
-    ensures { Gives (λ x. (x.0, x.1.now)) result (read (tt {0}) prod_tag_list tokens.now) }
-{
-    let (head, after) = tag(alloc, tokens)?;
-    let mut all = Vec::new(alloc);
-    all.push(head)?;
-    let mut rest = after;
-    while starts(rest, kinds::COMMA, kinds::COMMA) {
-        let (item, after) = further_tag(alloc, rest)?;
-        all.push(item)?;
-        rest = after;
+impl Listed for ColumnList {
+    ghost use Rattle.td_parse.specs.Productions.{column, column_good};
+
+    type Item = Column;
+
+    ghost production = { column };
+
+    ghost looks_one_ahead = { column_good };
+
+    fn read_item(alloc: Global, tokens: &[Lexeme]) -> Result<(Column, &[Lexeme]), Fault> {
+        column(alloc, tokens)
     }
-    Ok((Seq::from_vec(alloc, all), rest))
 }
 
-#[tactic(auto, using(td_grammar::proofs::Forms::value_itself), unfolding(crate::specs::Productions::columns))]
+// Tags in parentheses.
+struct TagList;
+
+impl Listed for TagList {
+    ghost use Rattle.td_parse.specs.Productions.{tag, tag_good};
+
+    type Item = Column;
+
+    ghost production = { tag };
+
+    ghost looks_one_ahead = { tag_good };
+
+    fn read_item(alloc: Global, tokens: &[Lexeme]) -> Result<(Column, &[Lexeme]), Fault> {
+        tag(alloc, tokens)
+    }
+}
+
+// ( name type { , name type } )
+#[tactic(auto, using(td_grammar::proofs::Forms::value_itself), unfolding(crate::specs::Productions::columns, crate::specs::Productions::column_list))]
 fn columns(alloc: Global, tokens: &[Lexeme]) -> Result<(Seq<Column>, &[Lexeme]), Fault>
     ensures { Gives (λ x. (x.0, x.1.now)) result (read (tt {0}) prod_columns tokens.now) }
 {
-    let rest = sign(tokens, kinds::OPEN_PAREN)?;
-    let (all, rest) = column_list(alloc, rest)?;
-    let rest = sign(rest, kinds::CLOSE_PAREN)?;
+    let rest = keyword(tokens, kinds::OPEN_PAREN)?;
+    let (all, rest) = comma_list::<ColumnList>(alloc, rest)?;
+    let rest = keyword(rest, kinds::CLOSE_PAREN)?;
     Ok((all, rest))
 }
 
-#[tactic(auto, using(td_grammar::proofs::Forms::value_itself), unfolding(crate::specs::Productions::tags))]
+// TAGS ( name type { , name type } )
+#[tactic(auto, using(td_grammar::proofs::Forms::value_itself), unfolding(crate::specs::Productions::tags, crate::specs::Productions::tag_list))]
 fn tags(alloc: Global, tokens: &[Lexeme]) -> Result<(Seq<Column>, &[Lexeme]), Fault>
     ensures { Gives (λ x. (x.0, x.1.now)) result (read (tt {0}) prod_tags tokens.now) }
 {
-    let rest = sign(tokens, kinds::TAGS)?;
-    let rest = sign(rest, kinds::OPEN_PAREN)?;
-    let (all, rest) = tag_list(alloc, rest)?;
-    let rest = sign(rest, kinds::CLOSE_PAREN)?;
+    let rest = keyword(tokens, kinds::TAGS)?;
+    let rest = keyword(rest, kinds::OPEN_PAREN)?;
+    let (all, rest) = comma_list::<TagList>(alloc, rest)?;
+    let rest = keyword(rest, kinds::CLOSE_PAREN)?;
     Ok((all, rest))
 }
 
+// STABLE name ( cols ) [ TAGS ( tags ) ], behind CREATE
 #[tactic(auto, using(td_grammar::proofs::Forms::value_itself, crate::proofs::Starts::starts_tags), unfolding(crate::specs::Productions::stable))]
 pub(crate) fn stable(alloc: Global, tokens: &[Lexeme]) -> Result<(Stmt, &[Lexeme]), Fault>
     ensures { Gives (λ x. (x.0, x.1.now)) result (read (tt {0}) prod_stable tokens.now) }
 {
-    let rest = sign(tokens, kinds::STABLE)?;
+    let rest = keyword(tokens, kinds::STABLE)?;
     let (name, rest) = name(alloc, rest)?;
     let (columns, rest) = columns(alloc, rest)?;
-    if starts(rest, kinds::TAGS, kinds::TAGS) {
+    if starts(rest, kinds::TAGS) {
         let (tags, rest) = tags(alloc, rest)?;
         let tags = Some(tags);
         Ok((
@@ -274,12 +266,13 @@ pub(crate) fn stable(alloc: Global, tokens: &[Lexeme]) -> Result<(Stmt, &[Lexeme
     }
 }
 
+// ( cols ) [ TAGS ( tags ) ]
 #[tactic(auto, using(td_grammar::proofs::Forms::value_itself, crate::proofs::Starts::starts_tags), unfolding(crate::specs::Productions::own_columns))]
 fn own_columns(alloc: Global, tokens: &[Lexeme]) -> Result<(Body, &[Lexeme]), Fault>
     ensures { Gives (λ x. (x.0, x.1.now)) result (read (tt {0}) prod_own_columns tokens.now) }
 {
     let (columns, rest) = columns(alloc, tokens)?;
-    if starts(rest, kinds::TAGS, kinds::TAGS) {
+    if starts(rest, kinds::TAGS) {
         let (tags, rest) = tags(alloc, rest)?;
         Ok((Body::Super(columns, tags), rest))
     } else {
@@ -287,32 +280,33 @@ fn own_columns(alloc: Global, tokens: &[Lexeme]) -> Result<(Body, &[Lexeme]), Fa
     }
 }
 
+// USING name TAGS ( lits )
 #[tactic(auto, using(td_grammar::proofs::Forms::value_itself), unfolding(crate::specs::Productions::of_stable))]
 fn of_stable(alloc: Global, tokens: &[Lexeme]) -> Result<(Body, &[Lexeme]), Fault>
     ensures { Gives (λ x. (x.0, x.1.now)) result (read (tt {0}) prod_of_stable tokens.now) }
 {
-    let rest = sign(tokens, kinds::USING)?;
+    let rest = keyword(tokens, kinds::USING)?;
     let (stable, rest) = name(alloc, rest)?;
-    let rest = sign(rest, kinds::TAGS)?;
-    let rest = sign(rest, kinds::OPEN_PAREN)?;
+    let rest = keyword(rest, kinds::TAGS)?;
+    let rest = keyword(rest, kinds::OPEN_PAREN)?;
     let (tags, rest) = literal_list(alloc, rest)?;
-    let rest = sign(rest, kinds::CLOSE_PAREN)?;
+    let rest = keyword(rest, kinds::CLOSE_PAREN)?;
     Ok((Body::Sub(stable, tags), rest))
 }
 
+// ( cols ) [ TAGS ( tags ) ] | USING name TAGS ( lits )
 #[tactic(auto, using(td_grammar::proofs::Forms::value_itself, crate::proofs::Starts::starts_of_stable), unfolding(crate::specs::Productions::table_body))]
 fn body(alloc: Global, tokens: &[Lexeme]) -> Result<(Body, &[Lexeme]), Fault>
     ensures { Gives (λ x. (x.0, x.1.now)) result (read (tt {0}) prod_table_body tokens.now) }
 {
-    if starts(tokens, kinds::USING, kinds::USING) {
-        let (body, rest) = of_stable(alloc, tokens)?;
-        Ok((body, rest))
+    if starts(tokens, kinds::USING) {
+        of_stable(alloc, tokens)
     } else {
-        let (body, rest) = own_columns(alloc, tokens)?;
-        Ok((body, rest))
+        own_columns(alloc, tokens)
     }
 }
 
+// The statement of a name and what follows it.
 fn table_of(name: Name, body: Body) -> Stmt
     ensures { result ≡ table_of name body }
 {
@@ -327,11 +321,12 @@ fn table_of(name: Name, body: Body) -> Stmt
     }
 }
 
+// TABLE name body, behind CREATE
 #[tactic(auto, using(td_grammar::proofs::Forms::value_itself), unfolding(crate::specs::Productions::table))]
 pub(crate) fn table(alloc: Global, tokens: &[Lexeme]) -> Result<(Stmt, &[Lexeme]), Fault>
     ensures { Gives (λ x. (x.0, x.1.now)) result (read (tt {0}) prod_table tokens.now) }
 {
-    let rest = sign(tokens, kinds::TABLE)?;
+    let rest = keyword(tokens, kinds::TABLE)?;
     let (name, rest) = name(alloc, rest)?;
     let (body, rest) = body(alloc, rest)?;
     Ok((table_of(name, body), rest))

@@ -1,24 +1,23 @@
 //! Writes to tables.
-ghost use Rattle.std.specs.Prelude.{◌≡◌, ◌++◌, OnOk, IfOk, [], ◌∷◌};
-ghost use Rattle.td_grammar.specs.Grammar.{read, begun};
-ghost use Rattle.td_grammar.specs.Grammar.{starts as starts_with};
+ghost use Rattle.td_grammar.specs.Grammar.{read};
 ghost use Rattle.td_grammar.specs.Gives.{Gives};
 ghost use Rattle.td_parse.specs.Productions.{chosen_columns as prod_chosen_columns, delete as prod_delete, further_group as prod_further_group, group as prod_group, groups as prod_groups, insert as prod_insert, range_of as prod_range_of};
 
 use std::alloc::Global;
 use td_clauses::{bound, literal_list, name_list, starts_either};
-use td_grammar::{Fault, Lexeme, kinds, name, same, sign, starts};
+use td_grammar::{Fault, Lexeme, keyword, kinds, name, same_name, starts};
 use td_layer::{Name, Seq};
 use td_model::{Lit, Stmt};
 
+// [ ( name { , name } ) ]
 #[tactic(auto, using(td_grammar::proofs::Forms::value_itself), unfolding(crate::specs::Productions::chosen_columns))]
 fn chosen_columns(alloc: Global, tokens: &[Lexeme]) -> Result<(Option<Seq<Name>>, &[Lexeme]), Fault>
     ensures { Gives (λ x. (x.0, x.1.now)) result (read (tt {0}) prod_chosen_columns tokens.now) }
 {
-    if starts(tokens, kinds::OPEN_PAREN, kinds::OPEN_PAREN) {
-        let rest = sign(tokens, kinds::OPEN_PAREN)?;
+    if starts(tokens, kinds::OPEN_PAREN) {
+        let rest = keyword(tokens, kinds::OPEN_PAREN)?;
         let (all, rest) = name_list(alloc, rest)?;
-        let rest = sign(rest, kinds::CLOSE_PAREN)?;
+        let rest = keyword(rest, kinds::CLOSE_PAREN)?;
         let all = Some(all);
         Ok((all, rest))
     } else {
@@ -26,30 +25,31 @@ fn chosen_columns(alloc: Global, tokens: &[Lexeme]) -> Result<(Option<Seq<Name>>
     }
 }
 
+// ( lits )
 #[tactic(auto, using(td_grammar::proofs::Forms::value_itself), unfolding(crate::specs::Productions::group))]
 fn group(alloc: Global, tokens: &[Lexeme]) -> Result<(Seq<Lit>, &[Lexeme]), Fault>
     ensures { Gives (λ x. (x.0, x.1.now)) result (read (tt {0}) prod_group tokens.now) }
 {
-    let rest = sign(tokens, kinds::OPEN_PAREN)?;
+    let rest = keyword(tokens, kinds::OPEN_PAREN)?;
     let (all, rest) = literal_list(alloc, rest)?;
-    let rest = sign(rest, kinds::CLOSE_PAREN)?;
+    let rest = keyword(rest, kinds::CLOSE_PAREN)?;
     Ok((all, rest))
 }
 
+// [,] ( lits )
 #[tactic(auto, using(td_grammar::proofs::Forms::value_itself), unfolding(crate::specs::Productions::further_group))]
 fn further_group(alloc: Global, tokens: &[Lexeme]) -> Result<(Seq<Lit>, &[Lexeme]), Fault>
     ensures { Gives (λ x. (x.0, x.1.now)) result (read (tt {0}) prod_further_group tokens.now) }
 {
-    if starts(tokens, kinds::COMMA, kinds::COMMA) {
-        let rest = sign(tokens, kinds::COMMA)?;
-        let (item, rest) = group(alloc, rest)?;
-        Ok((item, rest))
+    if starts(tokens, kinds::COMMA) {
+        let rest = keyword(tokens, kinds::COMMA)?;
+        group(alloc, rest)
     } else {
-        let (item, rest) = group(alloc, tokens)?;
-        Ok((item, rest))
+        group(alloc, tokens)
     }
 }
 
+// group { [,] group }
 fn groups(alloc: Global, tokens: &[Lexeme]) -> Result<(Seq<Seq<Lit>>, &[Lexeme]), Fault>
     ensures { Gives (λ x. (x.0, x.1.now)) result (read (tt {0}) prod_groups tokens.now) }
 {
@@ -65,15 +65,16 @@ fn groups(alloc: Global, tokens: &[Lexeme]) -> Result<(Seq<Seq<Lit>>, &[Lexeme])
     Ok((Seq::from_vec(alloc, all), rest))
 }
 
+// INSERT INTO name [ ( name { , name } ) ] VALUES group { [,] group }
 #[tactic(auto, using(td_grammar::proofs::Forms::value_itself), unfolding(crate::specs::Productions::insert))]
 pub(crate) fn insert(alloc: Global, tokens: &[Lexeme]) -> Result<(Stmt, &[Lexeme]), Fault>
     ensures { Gives (λ x. (x.0, x.1.now)) result (read (tt {0}) prod_insert tokens.now) }
 {
-    let rest = sign(tokens, kinds::INSERT)?;
-    let rest = sign(rest, kinds::INTO)?;
+    let rest = keyword(tokens, kinds::INSERT)?;
+    let rest = keyword(rest, kinds::INTO)?;
     let (table, rest) = name(alloc, rest)?;
     let (columns, rest) = chosen_columns(alloc, rest)?;
-    let rest = sign(rest, kinds::VALUES)?;
+    let rest = keyword(rest, kinds::VALUES)?;
     let (rows, rest) = groups(alloc, rest)?;
     Ok((
         Stmt::Insert {
@@ -85,6 +86,7 @@ pub(crate) fn insert(alloc: Global, tokens: &[Lexeme]) -> Result<(Stmt, &[Lexeme
     ))
 }
 
+// >= tlit AND name <= tlit, with the name in force
 #[tactic(auto, using(td_grammar::proofs::Forms::value_itself), unfolding(crate::specs::Productions::range_of))]
 fn range<'a>(
     alloc: Global,
@@ -93,23 +95,24 @@ fn range<'a>(
 ) -> Result<((Lit, Lit), &'a [Lexeme]), Fault>
     ensures { Gives (λ x. (x.0, x.1.now)) result (read name.now prod_range_of tokens.now) }
 {
-    let rest = sign(tokens, kinds::AT_LEAST)?;
+    let rest = keyword(tokens, kinds::AT_LEAST)?;
     let (low, rest) = bound(alloc, rest)?;
-    let rest = sign(rest, kinds::AND)?;
-    let rest = same(alloc, name, rest)?;
-    let rest = sign(rest, kinds::AT_MOST)?;
+    let rest = keyword(rest, kinds::AND)?;
+    let rest = same_name(alloc, name, rest)?;
+    let rest = keyword(rest, kinds::AT_MOST)?;
     let (high, rest) = bound(alloc, rest)?;
     Ok(((low, high), rest))
 }
 
+// DELETE FROM name WHERE name >= tlit AND name <= tlit, with one name in both places
 #[tactic(auto, using(td_grammar::proofs::Forms::value_itself), unfolding(crate::specs::Productions::delete))]
 pub(crate) fn delete(alloc: Global, tokens: &[Lexeme]) -> Result<(Stmt, &[Lexeme]), Fault>
     ensures { Gives (λ x. (x.0, x.1.now)) result (read (tt {0}) prod_delete tokens.now) }
 {
-    let rest = sign(tokens, kinds::DELETE)?;
-    let rest = sign(rest, kinds::FROM)?;
+    let rest = keyword(tokens, kinds::DELETE)?;
+    let rest = keyword(rest, kinds::FROM)?;
     let (table, rest) = name(alloc, rest)?;
-    let rest = sign(rest, kinds::WHERE)?;
+    let rest = keyword(rest, kinds::WHERE)?;
     let (column, rest) = name(alloc, rest)?;
     let ((lo, hi), rest) = range(alloc, column.as_slice(), rest)?;
     Ok((

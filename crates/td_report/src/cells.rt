@@ -5,23 +5,22 @@ ghost use Rattle.std.specs.List.{flat_map};
 ghost use lib.Chars.{codes};
 ghost use Rattle.td_model.specs.Text.{truth_text, quoted_byte, cell_text, more_cell, names_text, more_name, row_line};
 
-use crate::numbers::{push_number, push_signed};
-use std::alloc::AllocError;
-use td_layer::{Cell, Name, Seq};
+use td_layer::{Cell, Name, NoMem, Seq};
+use td_lex::decimal;
 
 // A byte of a quoted text: a quote is doubled.
-fn push_quoted_byte(out: &mut Vec<u8>, byte: u8) -> Result<(), AllocError>
-    ensures { OnOk result (out.new.items ≡ out.old.items ++ quoted_byte byte) }
+fn push_quoted_byte(out: &mut Name, byte: u8) -> Result<(), NoMem>
+    ensures { OnOk result (out.new ≡ out.old ++ quoted_byte byte) }
 {
     if byte == b'\'' {
-        out.extend_from_slice(b"''")
+        out.extend(b"''")
     } else {
-        out.extend_from_slice(&[byte])
+        out.extend(&[byte])
     }
 }
 
-fn push_quoted(out: &mut Vec<u8>, text: &[u8]) -> Result<(), AllocError>
-    ensures { OnOk result (out.new.items ≡ out.old.items ++ flat_map quoted_byte text.now) }
+fn push_quoted(out: &mut Name, text: &[u8]) -> Result<(), NoMem>
+    ensures { OnOk result (out.new ≡ out.old ++ flat_map quoted_byte text.now) }
 {
     for byte in text {
         push_quoted_byte(out, *byte)?;
@@ -29,73 +28,73 @@ fn push_quoted(out: &mut Vec<u8>, text: &[u8]) -> Result<(), AllocError>
     Ok(())
 }
 
-fn push_truth(out: &mut Vec<u8>, truth: bool) -> Result<(), AllocError>
-    ensures { OnOk result (out.new.items ≡ out.old.items ++ truth_text truth) }
+fn push_truth(out: &mut Name, truth: bool) -> Result<(), NoMem>
+    ensures { OnOk result (out.new ≡ out.old ++ truth_text truth) }
 {
     if truth {
-        out.extend_from_slice(b"true")
+        out.extend(b"true")
     } else {
-        out.extend_from_slice(b"false")
+        out.extend(b"false")
     }
 }
 
 #[tactic(auto, using(std::proofs::lemmas::List::append_assoc))]
-fn push_fraction(out: &mut Vec<u8>, sum: i128, count: u64) -> Result<(), AllocError>
-    ensures { OnOk result (out.new.items ≡ out.old.items ++ (signed_decimal sum ++ codes "/" ++ decimal count)) }
+fn push_fraction(out: &mut Name, sum: i128, count: u64) -> Result<(), NoMem>
+    ensures { OnOk result (out.new ≡ out.old ++ (signed_decimal sum ++ codes "/" ++ decimal count)) }
 {
-    push_signed(out, sum)?;
-    out.extend_from_slice(b"/")?;
-    push_number(out, count)
+    decimal(sum, out)?;
+    out.extend(b"/")?;
+    decimal(i128::from(count), out)
 }
 
 #[tactic(auto, using(std::proofs::lemmas::List::append_assoc))]
-fn push_text(out: &mut Vec<u8>, text: &[u8]) -> Result<(), AllocError>
-    ensures { OnOk result (out.new.items ≡ out.old.items ++ (codes "'" ++ flat_map quoted_byte text.now ++ codes "'")) }
+fn push_text(out: &mut Name, text: &[u8]) -> Result<(), NoMem>
+    ensures { OnOk result (out.new ≡ out.old ++ (codes "'" ++ flat_map quoted_byte text.now ++ codes "'")) }
 {
-    out.extend_from_slice(b"'")?;
+    out.extend(b"'")?;
     push_quoted(out, text)?;
-    out.extend_from_slice(b"'")
+    out.extend(b"'")
 }
 
-fn push_cell(out: &mut Vec<u8>, cell: &Cell) -> Result<(), AllocError>
-    ensures { OnOk result (out.new.items ≡ out.old.items ++ cell_text cell.now) }
+fn push_cell(out: &mut Name, cell: &Cell) -> Result<(), NoMem>
+    ensures { OnOk result (out.new ≡ out.old ++ cell_text cell.now) }
 {
     match cell {
-        Cell::Null => out.extend_from_slice(b"NULL"),
+        Cell::Null => out.extend(b"NULL"),
         Cell::Truth(truth) => push_truth(out, *truth),
-        Cell::Num(n) => push_signed(out, *n),
+        Cell::Num(n) => decimal(*n, out),
         Cell::Frac { sum, count } => push_fraction(out, *sum, *count),
         Cell::Str(text) => push_text(out, text.as_slice()),
     }
 }
 
 #[tactic(auto, using(std::proofs::lemmas::List::append_assoc))]
-fn push_more_cells(out: &mut Vec<u8>, cells: &[Cell]) -> Result<(), AllocError>
-    ensures { OnOk result (out.new.items ≡ out.old.items ++ flat_map more_cell cells.now) }
+fn push_more_cells(out: &mut Name, cells: &[Cell]) -> Result<(), NoMem>
+    ensures { OnOk result (out.new ≡ out.old ++ flat_map more_cell cells.now) }
 {
     for cell in cells {
-        out.extend_from_slice(b",")?;
+        out.extend(b",")?;
         push_cell(out, cell)?;
     }
     Ok(())
 }
 
 #[tactic(auto, using(std::proofs::lemmas::List::append_assoc))]
-fn push_row(out: &mut Vec<u8>, cells: &[Cell]) -> Result<(), AllocError>
-    ensures { OnOk result (out.new.items ≡ out.old.items ++ row_line cells.now) }
+fn push_row(out: &mut Name, cells: &[Cell]) -> Result<(), NoMem>
+    ensures { OnOk result (out.new ≡ out.old ++ row_line cells.now) }
 {
     match cells {
-        [] => out.extend_from_slice(b"\n"),
+        [] => out.extend(b"\n"),
         [first, rest @ ..] => {
             push_cell(out, first)?;
             push_more_cells(out, rest)?;
-            out.extend_from_slice(b"\n")
+            out.extend(b"\n")
         }
     }
 }
 
-pub(crate) fn push_rows(out: &mut Vec<u8>, rows: &[Seq<Cell>]) -> Result<(), AllocError>
-    ensures { OnOk result (out.new.items ≡ out.old.items ++ flat_map row_line rows.now) }
+pub(crate) fn push_rows(out: &mut Name, rows: &[Seq<Cell>]) -> Result<(), NoMem>
+    ensures { OnOk result (out.new ≡ out.old ++ flat_map row_line rows.now) }
 {
     for row in rows {
         push_row(out, row.as_slice())?;
@@ -104,24 +103,24 @@ pub(crate) fn push_rows(out: &mut Vec<u8>, rows: &[Seq<Cell>]) -> Result<(), All
 }
 
 #[tactic(auto, using(std::proofs::lemmas::List::append_assoc))]
-fn push_more_names(out: &mut Vec<u8>, names: &[Name]) -> Result<(), AllocError>
-    ensures { OnOk result (out.new.items ≡ out.old.items ++ flat_map more_name names.now) }
+fn push_more_names(out: &mut Name, names: &[Name]) -> Result<(), NoMem>
+    ensures { OnOk result (out.new ≡ out.old ++ flat_map more_name names.now) }
 {
     for name in names {
-        out.extend_from_slice(b",")?;
-        out.extend_from_slice(name.as_slice())?;
+        out.extend(b",")?;
+        out.extend(name.as_slice())?;
     }
     Ok(())
 }
 
 #[tactic(auto, using(std::proofs::lemmas::List::append_assoc))]
-pub(crate) fn push_names(out: &mut Vec<u8>, names: &[Name]) -> Result<(), AllocError>
-    ensures { OnOk result (out.new.items ≡ out.old.items ++ names_text names.now) }
+pub(crate) fn push_names(out: &mut Name, names: &[Name]) -> Result<(), NoMem>
+    ensures { OnOk result (out.new ≡ out.old ++ names_text names.now) }
 {
     match names {
         [] => Ok(()),
         [first, rest @ ..] => {
-            out.extend_from_slice(first.as_slice())?;
+            out.extend(first.as_slice())?;
             push_more_names(out, rest)
         }
     }

@@ -5,24 +5,23 @@ ghost use Rattle.std.specs.List.{flat_map};
 ghost use lib.Chars.{codes};
 ghost use Rattle.td_model.specs.Text.{who_text, mark_text, journal_line, stream_line};
 
-use crate::numbers::push_number;
-use std::alloc::AllocError;
-use td_layer::Name;
+use td_layer::{Name, NoMem};
+use td_lex::decimal;
 use td_model::{JournalLine, Mark};
 
 #[tactic(auto, using(std::proofs::lemmas::List::append_assoc))]
-fn push_stream_line(out: &mut Vec<u8>, stream: &(Name, u64)) -> Result<(), AllocError>
-    ensures { OnOk result (out.new.items ≡ out.old.items ++ stream_line stream.now) }
+fn push_stream_line(out: &mut Name, stream: &(Name, u64)) -> Result<(), NoMem>
+    ensures { OnOk result (out.new ≡ out.old ++ stream_line stream.now) }
 {
-    out.extend_from_slice(b"stream ")?;
-    out.extend_from_slice(stream.0.as_slice())?;
-    out.extend_from_slice(b" upto ")?;
-    push_number(out, stream.1)?;
-    out.extend_from_slice(b"\n")
+    out.extend(b"stream ")?;
+    out.extend(stream.0.as_slice())?;
+    out.extend(b" upto ")?;
+    decimal(i128::from(stream.1), out)?;
+    out.extend(b"\n")
 }
 
-pub(crate) fn push_streams(out: &mut Vec<u8>, streams: &[(Name, u64)]) -> Result<(), AllocError>
-    ensures { OnOk result (out.new.items ≡ out.old.items ++ flat_map stream_line streams.now) }
+pub(crate) fn push_streams(out: &mut Name, streams: &[(Name, u64)]) -> Result<(), NoMem>
+    ensures { OnOk result (out.new ≡ out.old ++ flat_map stream_line streams.now) }
 {
     for stream in streams {
         push_stream_line(out, stream)?;
@@ -32,31 +31,31 @@ pub(crate) fn push_streams(out: &mut Vec<u8>, streams: &[(Name, u64)]) -> Result
 
 // Whose entry it is.
 #[tactic(auto, using(std::proofs::lemmas::List::append_assoc))]
-fn push_who(out: &mut Vec<u8>, session: u32, ordinal: u32) -> Result<(), AllocError>
-    ensures { OnOk result (out.new.items ≡ out.old.items ++ who_text session ordinal) }
+fn push_who(out: &mut Name, session: u32, ordinal: u32) -> Result<(), NoMem>
+    ensures { OnOk result (out.new ≡ out.old ++ who_text session ordinal) }
 {
     if session == 0 && ordinal == 0 {
-        return out.extend_from_slice(b"0");
+        return out.extend(b"0");
     }
-    push_number(out, u64::from(session))?;
-    out.extend_from_slice(b".")?;
-    push_number(out, u64::from(ordinal))
+    decimal(i128::from(session), out)?;
+    out.extend(b".")?;
+    decimal(i128::from(ordinal), out)
 }
 
 #[tactic(auto, using(std::proofs::lemmas::List::append_assoc))]
-fn push_step(out: &mut Vec<u8>, stream: &Name, upto: u64, moment: u64) -> Result<(), AllocError>
-    ensures { OnOk result (out.new.items ≡ out.old.items ++ (codes " step " ++ stream.now ++ codes " " ++ decimal upto ++ codes " " ++ decimal moment)) }
+fn push_step(out: &mut Name, stream: &Name, upto: u64, moment: u64) -> Result<(), NoMem>
+    ensures { OnOk result (out.new ≡ out.old ++ (codes " step " ++ stream.now ++ codes " " ++ decimal upto ++ codes " " ++ decimal moment)) }
 {
-    out.extend_from_slice(b" step ")?;
-    out.extend_from_slice(stream.as_slice())?;
-    out.extend_from_slice(b" ")?;
-    push_number(out, upto)?;
-    out.extend_from_slice(b" ")?;
-    push_number(out, moment)
+    out.extend(b" step ")?;
+    out.extend(stream.as_slice())?;
+    out.extend(b" ")?;
+    decimal(i128::from(upto), out)?;
+    out.extend(b" ")?;
+    decimal(i128::from(moment), out)
 }
 
-fn push_mark(out: &mut Vec<u8>, mark: &Mark) -> Result<(), AllocError>
-    ensures { OnOk result (out.new.items ≡ out.old.items ++ mark_text mark.now) }
+fn push_mark(out: &mut Name, mark: &Mark) -> Result<(), NoMem>
+    ensures { OnOk result (out.new ≡ out.old ++ mark_text mark.now) }
 {
     match mark {
         Mark::Plain => Ok(()),
@@ -65,25 +64,25 @@ fn push_mark(out: &mut Vec<u8>, mark: &Mark) -> Result<(), AllocError>
             upto,
             moment,
         } => push_step(out, stream, *upto, *moment),
-        Mark::Halt => out.extend_from_slice(b" halt"),
+        Mark::Halt => out.extend(b" halt"),
     }
 }
 
 #[tactic(auto, using(std::proofs::lemmas::List::append_assoc))]
-fn push_journal_line(out: &mut Vec<u8>, line: &JournalLine) -> Result<(), AllocError>
-    ensures { OnOk result (out.new.items ≡ out.old.items ++ journal_line line.now) }
+fn push_journal_line(out: &mut Name, line: &JournalLine) -> Result<(), NoMem>
+    ensures { OnOk result (out.new ≡ out.old ++ journal_line line.now) }
 {
-    push_number(out, line.version)?;
-    out.extend_from_slice(b" ")?;
+    decimal(i128::from(line.version), out)?;
+    out.extend(b" ")?;
     push_who(out, line.session, line.ordinal)?;
-    out.extend_from_slice(b" ")?;
-    push_number(out, line.moment)?;
+    out.extend(b" ")?;
+    decimal(i128::from(line.moment), out)?;
     push_mark(out, &line.mark)?;
-    out.extend_from_slice(b"\n")
+    out.extend(b"\n")
 }
 
-pub(crate) fn push_journal(out: &mut Vec<u8>, lines: &[JournalLine]) -> Result<(), AllocError>
-    ensures { OnOk result (out.new.items ≡ out.old.items ++ flat_map journal_line lines.now) }
+pub(crate) fn push_journal(out: &mut Name, lines: &[JournalLine]) -> Result<(), NoMem>
+    ensures { OnOk result (out.new ≡ out.old ++ flat_map journal_line lines.now) }
 {
     for line in lines {
         push_journal_line(out, line)?;

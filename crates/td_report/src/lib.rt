@@ -6,14 +6,13 @@
 //! loses nothing: two reports with the same text are the same report, where their names are words, and their header items
 //! aren't empty and have no comma and no byte below 32.
 //!
-//! It stands on `td_model`, `td_layer` and `itoa`.
+//! It stands on `td_model` for reports, on `td_layer` for lists of bytes, and on `td_lex` for the decimal text of numbers.
 #![tactic(auto)]
 
 mod causes;
 mod cells;
 mod journal;
 mod law;
-mod numbers;
 mod replies;
 mod text;
 

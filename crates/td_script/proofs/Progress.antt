@@ -86,10 +86,10 @@ few_lines bytes rest number n p = omega (arith, p.told.few_lines, same_length p.
 pub small_number : (bytes rest : List ℕ) (number : ℕ) (n : Numbering) → Progress bytes rest number n → number ≤ length bytes
 small_number bytes rest number n p = omega (arith, p.number_is, p.few)
 
-pub small_phase : (bytes rest : List ℕ) (number : ℕ) (n : Numbering) → Progress bytes rest number n → n.phase ≤ length bytes + 1
+pub small_phase : (bytes rest : List ℕ) (number : ℕ) (n : Numbering) → Progress bytes rest number n → n.phase + length rest ≤ length bytes + 1
 small_phase bytes rest number n p = omega (arith, p.told.few_phases, same_length p.lines p.kinds p.of_kinds, p.few)
 
-pub small_counts : (bytes rest : List ℕ) (number : ℕ) (n : Numbering) → Progress bytes rest number n → (i : ℕ) → i < length n.counts → get_or n.counts i 0 ≤ length bytes
+pub small_counts : (bytes rest : List ℕ) (number : ℕ) (n : Numbering) → Progress bytes rest number n → (i : ℕ) → i < length n.counts → get_or n.counts i 0 + length rest ≤ length bytes
 small_counts bytes rest number n p i inside = omega (arith, small_count p.kinds n p.told i inside, same_length p.lines p.kinds p.of_kinds, p.few)
 
 pub no_bytes : (xs : List ℕ) → length xs ≡ 0 → xs ≡ []

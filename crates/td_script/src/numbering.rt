@@ -10,7 +10,7 @@ use td_layer::{NoMem, Seq};
 /// The statement lines so far, the phase that the next one stands in, and how many there are of each session.
 #[derive(Drop)]
 pub struct Numbering {
-    phase: u32,
+    phase: u64,
     counts: [u32; 64],
     lines: Seq<Line>,
 }
@@ -31,7 +31,7 @@ impl Numbering {
 
     /// Adds a line of this kind. Where there is no memory all stays as it was.
     pub fn add(&mut self, alloc: Global, kind: Kind<'_>) -> Result<(), NoMem>
-        requires phase { self.old.phase + 1 < 2 ^ 32 }
+        requires phase { self.old.phase < 2 ^ 32 }
         requires counts { EachIndex self.old.counts (λ i. slice_index self.old.counts i + 1 < 2 ^ 32) }
         requires session { HasCount (shown kind) }
         ensures ok { OnOk result (self.new ≡ step self.old (shown kind.entry)) }
@@ -45,7 +45,7 @@ impl Numbering {
                 let at = session as usize - 1;
                 let ordinal = self.counts[at] + 1;
                 let line = Line {
-                    phase: self.phase,
+                    phase: self.phase as u32,
                     session,
                     ordinal,
                     text,

@@ -22,20 +22,20 @@ all : (puts : List Put) (version moment : ℕ) (c : Catalog) (k : Kept) → put_
 all [] version moment c k = refl
 all (p ∷ ps) version moment c k = ap (put_all ps) (one (parent_of (table_at p.key.table c)) p version moment c k) ∙ all ps version moment c (record k { rows = row_after moment p k.rows; latest = raised_by (parent_of (table_at p.key.table c)) p.key k.latest })
 
-effect_is : (w : What) (version moment : ℕ) (c : Catalog) (k : Kept) → state_of version moment (with_what w c) (kept_after w version moment c k) ≡ effect w (state_of version moment c k)
-effect_is (what.MakeStable name schema) version moment c k = refl
-effect_is (what.MakeTable name columns) version moment c k = refl
-effect_is (what.MakeSub name stable tags) version moment c k = refl
-effect_is (what.Put puts) version moment c k = sym (all puts version moment c k)
-effect_is (what.Cut table lo hi) version moment c k = refl
-effect_is (what.MakeStream def) version moment c k = refl
-effect_is (what.DropStream n) version moment c k = refl
-effect_is (what.Edge edge) version moment c k = refl
-effect_is (what.Step stream upto moment') version moment c k = refl
-effect_is what.Halt version moment c k = refl
+effect_is : (past : List State) (w : What) (version moment : ℕ) (c : Catalog) (k : Kept) → state_of version moment (with_what w c) (kept_after w version moment c k) ≡ effect past w (state_of version moment c k)
+effect_is past (what.MakeStable name schema) version moment c k = refl
+effect_is past (what.MakeTable name columns) version moment c k = refl
+effect_is past (what.MakeSub name stable tags) version moment c k = refl
+effect_is past (what.Put puts) version moment c k = sym (all puts version moment c k)
+effect_is past (what.Cut table lo hi) version moment c k = refl
+effect_is past (what.MakeStream def) version moment c k = refl
+effect_is past (what.DropStream n) version moment c k = refl
+effect_is past (what.Edge edge) version moment c k = refl
+effect_is past (what.Step stream upto moment') version moment c k = refl
+effect_is past what.Halt version moment c k = refl
 
 -- the state after an entry that is taken in
-pub stepped : (s : State) (x : Entry) (version moment : ℕ) (c d e : Catalog) (k l : Kept) → state_of version moment c k ≡ s → d ≡ c → l ≡ kept_after x.what (version + 1) x.moment d k → e ≡ with_what x.what d → state_of (version + 1) x.moment e l ≡ step s x
+pub stepped : (s : State) (x : Entry) (version moment : ℕ) (c d e : Catalog) (k l : Kept) → state_of version moment c k ≡ s → d ≡ c → l ≡ kept_after x.what (version + 1) x.moment d k → e ≡ with_what x.what d → state_of (version + 1) x.moment e l ≡ step (s ∷ []) x
 stepped s x version moment c d e k l is same kept changed =
-    let plain : state_of (version + 1) x.moment (with_what x.what c) (kept_after x.what (version + 1) x.moment c k) ≡ step s x = effect_is x.what (version + 1) x.moment c k ∙ ap (λ t. step t x) is in
+    let plain : state_of (version + 1) x.moment (with_what x.what c) (kept_after x.what (version + 1) x.moment c k) ≡ step (s ∷ []) x = effect_is (state_of version moment c k ∷ []) x.what (version + 1) x.moment c k ∙ ap (λ t. step (t ∷ []) x) is in
     rw (kept, changed, same) plain

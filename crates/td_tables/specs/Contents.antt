@@ -1,9 +1,10 @@
 -- What is kept beside a catalog, and what an entry makes of it.
 use Rattle.std.specs.Prelude.{ℕ, ◌+◌, ◌*◌, not, nat_le, [], ◌∷◌, ◌++◌, filter, length, Option, Some, None}
+use Rattle.td_limits.specs.declared.limits.TheConstants.{DAY_RANGE}
 use Rattle.td_model.specs.declared.history.What.{What}
 use Rattle.td_model.specs.declared.history.What.TheVariants as what
 use Rattle.td_model.specs.Catalog.{Catalog}
-use Rattle.td_model.specs.State.{State, Rows, day_range, is_cut}
+use Rattle.td_model.specs.State.{State, Rows, is_cut}
 use Rattle.td_tagidx.specs.Indexed.{Subtables, with_subtable}
 use Rattle.td_rows.specs.Puts.{rows_after}
 use Rattle.td_tables.specs.declared.latest.Latest.{Latest}
@@ -25,7 +26,7 @@ kept_after (what.MakeTable name columns) version moment c k = record k { latest 
 kept_after (what.MakeSub name stable tags) version moment c k = record k { latest = record k.latest { tables = k.latest.tables ++ None ∷ [] }; subtables = with_subtable (length c.tables + 1, tags) k.subtables }
 kept_after (what.Put puts) version moment c k = record k { rows = rows_after moment puts k.rows; latest = raised_all c puts k.latest }
 kept_after (what.Cut table lo hi) version moment c k = record k { rows = filter (λ e. not (is_cut table lo hi e.0)) k.rows }
-kept_after (what.Edge edge) version moment c k = record k { edge = edge; rows = filter (λ e. nat_le (edge * day_range) e.0.ts) k.rows }
+kept_after (what.Edge edge) version moment c k = record k { edge = edge; rows = filter (λ e. nat_le (edge * DAY_RANGE) e.0.ts) k.rows }
 kept_after (what.MakeStream def) version moment c k = k
 kept_after (what.DropStream n) version moment c k = k
 kept_after (what.Step stream upto moment') version moment c k = k

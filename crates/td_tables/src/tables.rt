@@ -1,22 +1,24 @@
 //! The state that a script is played on.
-ghost use Rattle.std.specs.Prelude.{◌≡◌, ◌<◌, ◌≤◌, ◌+◌, ◌^◌, [], IfOk, OnOk, OnErr, IsTrue, Some, None};
+ghost use Rattle.std.specs.Prelude.{◌≡◌, ◌<◌, ◌≤◌, ◌+◌, ◌^◌, [], ◌∷◌, IfOk, OnOk, OnErr, IsTrue, Some, None};
 ghost use Rattle.td_model.specs.declared.language.Query.{Query};
+ghost use Rattle.td_model.specs.Built.{is_write};
 ghost use Rattle.td_model.specs.State.{step, empty_state};
 ghost use Rattle.td_catalog.specs.Kept.{CanFollow};
-ghost use Rattle.td_verdict.specs.Writes.{is_write, write_verdict};
+ghost use Rattle.td_verdict.specs.Writes.{write_verdict};
 ghost use Rattle.td_verdict.specs.Queries.{query_verdict};
 ghost use Rattle.td_verdict.specs.Plans.{plan_of};
 ghost use Rattle.td_verdict.specs.Answers.{header, answer};
-ghost use Rattle.td_told.specs.Verdict.{verdict, read_verdict};
+ghost use Rattle.td_told.specs.Verdict.{verdict};
 ghost use Rattle.td_told.specs.Turn.{accepted_reply, reply_of, TurnIs, TurnAnswers};
 
 use crate::contents::Contents;
 use std::alloc::Global;
 use std::marker::Model;
 use td_answer::answer;
-use td_bind::{bind_query, bind_write, comparisons, header, is_write, shown_places};
+use td_bind::{bind_query, bind_write, comparisons, header, shown_places};
 use td_catalog::Catalog;
 use td_layer::{Copied, NoMem};
+use td_limits::LAST_TIMESTAMP;
 use td_model::{Cause, Entry, JournalLine, Mark, Plan, Query, Reply, Stmt, What};
 use td_rows::RowMap;
 
@@ -82,7 +84,7 @@ impl<M: RowMap> Tables<M> {
     fn accept(&mut self, entry: &Entry) -> Result<(), NoMem>
         requires version { self.old.version + 1 < 2 ^ 64 }
         requires follows { CanFollow entry.now.what self.old.catalog }
-        ensures ok { OnOk result (self.new ≡ step self.old entry.now) }
+        ensures ok { OnOk result (self.new ≡ step (self.old ∷ []) entry.now) }
         ensures err { OnErr result (self.new ≡ self.old) }
     {
         let change = self.catalog.prepare(entry)?;
@@ -118,32 +120,35 @@ impl<M: RowMap> Tables<M> {
     }
 
     // The turn of a query.
-    fn select(&self, query: &Query) -> Result<Reply, NoMem>
-        ensures { IfOk result (λ r. r ≡ reply_of (Stmt.Select query.now) (Some (query_verdict query.now self.now.catalog)) self.now) }
+    fn select(&self, query: &Query) -> Result<Turn, NoMem>
+        ensures reply { IfOk result (λ t. t.reply ≡ reply_of (Stmt.Select query.now) (Some (query_verdict query.now self.now.catalog)) self.now) }
+        ensures line { IfOk result (λ t. t.line ≡ None) }
     {
         match bind_query(self.alloc, query, &self.catalog, self.contents.index())? {
             Ok(plan) => {
                 let reply = self.answered(&plan)?;
-                Ok(reply)
+                Ok(Turn { reply, line: None })
             }
             Err(cause) => Ok(self.refused(cause)),
         }
     }
 
-    // The reply of a refusal.
-    fn refused(&self, cause: Cause) -> Reply
-        ensures { result ≡ Reply.Refused self.now.version cause }
+    // The turn of a statement that is refused.
+    fn refused(&self, cause: Cause) -> Turn
+        ensures reply { result.reply ≡ Reply.Refused self.now.version cause }
+        ensures line { result.line ≡ None }
     {
-        Reply::Refused {
+        let reply = Reply::Refused {
             prefix: self.version,
             cause,
-        }
+        };
+        Turn { reply, line: None }
     }
 
     // The turn of a write.
     fn write(&mut self, session: u32, ordinal: u32, moment: u64, stmt: &Stmt) -> Result<Turn, NoMem>
         requires version { self.old.version + 1 < 2 ^ 64 }
-        requires moment { moment ≤ 253402300799999 }
+        requires moment { moment ≤ LAST_TIMESTAMP }
         requires write { IsTrue (is_write stmt.now) }
         ensures turn { IfOk result (λ t. TurnIs stmt.now (Some (write_verdict stmt.now self.old.catalog self.old.edge moment)) self.old self.new session ordinal moment t.reply t.line) }
         ensures err { OnErr result (self.new ≡ self.old) }
@@ -174,31 +179,12 @@ impl<M: RowMap> Tables<M> {
                     }),
                 })
             }
-            Err(cause) => Ok(Turn {
-                reply: self.refused(cause),
-                line: None,
-            }),
+            Err(cause) => Ok(self.refused(cause)),
         }
     }
 
-    // The turn of a statement that is no write.
-    fn read(&self, stmt: &Stmt) -> Result<Reply, NoMem>
-        ensures { IfOk result (λ r. r ≡ reply_of stmt.now (Some (read_verdict stmt.now self.now)) self.now) }
-    {
-        match stmt {
-            Stmt::Wrong(cause) => {
-                let cause = cause.copy()?;
-                Ok(self.refused(cause))
-            }
-            Stmt::Select(query) => {
-                let reply = self.select(query)?;
-                Ok(reply)
-            }
-            _ => Ok(self.refused(Cause::OptionNotBuilt)),
-        }
-    }
-
-    // One statement's turn, or want of memory, which changes nothing.
+    // One statement's turn, or want of memory, which changes nothing. The cause of its text comes first, and then that its
+    // form isn't built. So far the forms that are built are the writes and SELECT.
     fn judged(
         &mut self,
         session: u32,
@@ -207,16 +193,26 @@ impl<M: RowMap> Tables<M> {
         stmt: &Stmt,
     ) -> Result<Turn, NoMem>
         requires version { self.old.version + 1 < 2 ^ 64 }
-        requires moment { moment ≤ 253402300799999 }
-        ensures turn { IfOk result (λ t. TurnIs stmt.now (Some (verdict stmt.now self.old moment)) self.old self.new session ordinal moment t.reply t.line) }
+        requires moment { moment ≤ LAST_TIMESTAMP }
+        ensures turn { IfOk result (λ t. TurnIs stmt.now (Some (verdict stmt.now self.old [] moment)) self.old self.new session ordinal moment t.reply t.line) }
         ensures err { OnErr result (self.new ≡ self.old) }
     {
-        if is_write(stmt) {
-            let turn = self.write(session, ordinal, moment, stmt)?;
-            Ok(turn)
-        } else {
-            let reply = self.read(stmt)?;
-            Ok(Turn { reply, line: None })
+        if let Stmt::Wrong(cause) = stmt {
+            let cause = cause.copy()?;
+            return Ok(self.refused(cause));
+        }
+        if !stmt.is_built() {
+            return Ok(self.refused(Cause::OptionNotBuilt));
+        }
+        match stmt {
+            Stmt::Select(query) => {
+                let turn = self.select(query)?;
+                Ok(turn)
+            }
+            _ => {
+                let turn = self.write(session, ordinal, moment, stmt)?;
+                Ok(turn)
+            }
         }
     }
 
@@ -224,7 +220,7 @@ impl<M: RowMap> Tables<M> {
     /// memory, which changes nothing.
     pub fn turn(&mut self, session: u32, ordinal: u32, moment: u64, stmt: &Stmt) -> Turn
         requires version { self.old.version + 1 < 2 ^ 64 }
-        requires moment { moment ≤ 253402300799999 }
+        requires moment { moment ≤ LAST_TIMESTAMP }
         ensures { TurnAnswers stmt.now self.old self.new session ordinal moment result.reply result.line }
     {
         match self.judged(session, ordinal, moment, stmt) {

@@ -4,7 +4,7 @@ use Rattle.std.proofs.lemmas.Bool.{eq-eqb}
 use Rattle.std.proofs.lemmas.Bool.Decides.{eqb_tells}
 use Rattle.td_model.specs.declared.report.JournalLine.{JournalLine}
 use Rattle.td_told.specs.Asked.{Asked, statement_at, count_of}
-use Rattle.td_told.specs.Told.{Rising, lines_of}
+use Rattle.td_told.specs.Journal.{Rising, lines_of}
 
 pub count_more : (session : ℕ) (front : List Asked) (a : Asked) → count_of session (front ++ a ∷ []) ≡ cond (a.session == session) (count_of session front + 1) (count_of session front)
 count_more session [] a = refl

@@ -1,6 +1,8 @@
 -- A run of turns is told by its replies and its journal.
-use Rattle.std.proofs.Common.{◌≡◌, ℕ, zero, suc, ◌+◌, ◌-◌, ◌≤◌, List, [], ◌∷◌, ◌++◌, length, take, Option, Some, None, slice_get, refl, sym, ap, ◌∙◌, subst, arith}
+use Rattle.std.proofs.Common.{◌≡◌, ℕ, zero, suc, ◌+◌, ◌-◌, ◌≤◌, not, cond, List, [], ◌∷◌, ◌++◌, map, length, take, Option, Some, None, slice_get, true, refl, sym, ap, ◌∙◌, subst, arith}
+use Rattle.std.specs.List.{Contains}
 use Rattle.std.proofs.lemmas.List.{append_assoc, length-append, take_at}
+use Rattle.td_limits.specs.declared.limits.TheConstants.{LAST_TIMESTAMP}
 use Rattle.td_model.specs.declared.language.Stmt.{Stmt}
 use Rattle.td_model.specs.declared.history.What.{What}
 use Rattle.td_model.specs.declared.history.What.TheVariants as what
@@ -12,18 +14,21 @@ use Rattle.td_model.specs.declared.report.JournalLine.{JournalLine}
 use Rattle.td_model.specs.State.{State, step, newest, trail, after, at}
 use Rattle.td_model.proofs.Steps.{step_version}
 use Rattle.td_told.specs.Asked.{Asked, count_of, Counted}
-use Rattle.td_told.specs.Times.{Timed}
+use Rattle.td_told.specs.Times.{Timed, without_halts}
 use Rattle.td_told.specs.Verdict.{verdict, answer, header}
-use Rattle.td_told.specs.Told.{IsHistory, Entered, JudgedAt, IsPrefix, Answers, EachAnswered, entry_of, InOrder, NumberIs, front_after, listed, accepted, with_version, version_of, ToldInOrder}
-use Rattle.td_told.specs.Turn.{clock_reads, reply_of, accepted_reply, state_then, line_then, as_list, reply_line_at, line_at, entry_at, Judged}
-use Rattle.td_told.proofs.Plays.{Plays, MayBe}
+use Rattle.td_told.specs.Numbers.{Replied, Number, of_entry, of_state, unnumbered, number, number_of, IsFront, front_after, AreFronts}
+use Rattle.td_told.specs.Journal.{RunsOn, IsHistory, entry_of, version_of, IsAccepted, AreAccepted, listed, with_version, accepted}
+use Rattle.td_told.specs.Replies.{Entered, JudgedAt, IsPrefix, Answers, EachAnswers, reply_line, is_query}
+use Rattle.td_told.specs.Told.{ToldInOrder}
+use Rattle.td_told.specs.Turn.{clock_reads, reply_of, accepted_reply, state_then, line_then, as_list, line_at, entry_at, Judged}
+use Rattle.td_told.proofs.Plays.{Plays, MayBe, asked_of}
 use Rattle.td_told.proofs.Orders.{session_numbers, phase_numbers}
 use Rattle.td_told.proofs.Counts.{Unseen, unseen_more, statement_here, RisesAfter, rises_with, rises_without}
-use Rattle.td_told.proofs.Fits.{Suits, Fits, fits, reads_one}
+use Rattle.td_told.proofs.Fits.{Suits, Fits, fits, reads_one, no_halt, step_alone, answer_numbered}
 
-trail_push : (past : List State) (h : List Entry) (e : Entry) → trail past (h ++ e ∷ []) ≡ step (newest (trail past h)) e ∷ trail past h
+trail_push : (past : List State) (h : List Entry) (e : Entry) → trail past (h ++ e ∷ []) ≡ step (trail past h) e ∷ trail past h
 trail_push past [] e = refl
-trail_push past (x ∷ h) e = trail_push (step (newest past) x ∷ past) h e
+trail_push past (x ∷ h) e = trail_push (step past x ∷ past) h e
 
 slice_get_at : {A : Type 0} (p : List A) (y : A) (ys : List A) (k : ℕ) → k ≡ length p → slice_get (p ++ y ∷ ys) k ≡ Some y
 slice_get_at [] y ys k e = rw e refl
@@ -45,16 +50,16 @@ module _ (b s : State) (older : List State) (h0 : List Entry) (j0 : List Journal
   prefix_here : (js : List JournalLine) → IsPrefix b (j0 ++ js) s.version
   prefix_here js = (omega (arith, begins.version), omega (arith, begins.version, begins.lines, length-append j0 js))
 
-  judged_here : (q : Stmt) (v : Verdict) (m : ℕ) (h : List Entry) (js : List JournalLine) → s.moment ≤ m → m ≤ 253402300799999 → verdict q s m ≡ v → JudgedAt b (h0 ++ h) (j0 ++ js) q s.version v
+  judged_here : (q : Stmt) (v : Verdict) (m : ℕ) (h : List Entry) (js : List JournalLine) → s.moment ≤ m → m ≤ LAST_TIMESTAMP → verdict q s [] m ≡ v → JudgedAt b (h0 ++ h) (j0 ++ js) [] q s.version v
   judged_here q v m h js early most e = record {
     is_prefix = prefix_here js;
     moment = m;
     not_before = subst (λ (x : State). x.moment ≤ m) (sym (at_here h)) early;
     most = most;
-    judged = ap (λ x. verdict q x m) (at_here h) ∙ e;
+    judged = ap (λ x. verdict q x [] m) (at_here h) ∙ e;
   }
 
-  entered_here : (a : Asked) (w : What) (rows m : ℕ) (h : List Entry) (rest : List JournalLine) → verdict a.stmt s m ≡ Accept w rows → Entered b (h0 ++ h) (j0 ++ line_at (s.version + 1) a.session a.ordinal m ∷ rest) a (s.version + 1) w rows
+  entered_here : (a : Asked) (w : What) (rows m : ℕ) (h : List Entry) (rest : List JournalLine) → verdict a.stmt s [] m ≡ Accept w rows → Entered b (h0 ++ h) (j0 ++ line_at (s.version + 1) a.session a.ordinal m ∷ rest) a (s.version + 1) w rows
   entered_here a w rows m h rest e =
       let before : s.version + 1 - 1 ≡ s.version = omega arith in
       record {
@@ -64,10 +69,10 @@ module _ (b s : State) (older : List State) (h0 : List Entry) (j0 : List Journal
         version_is = refl;
         session_is = refl;
         ordinal_is = refl;
-        accepted = ap (λ p. verdict a.stmt (at b (h0 ++ h) p) m) before ∙ ap (λ x. verdict a.stmt x m) (at_here h) ∙ e;
+        accepted = ap (λ p. verdict a.stmt (at b (h0 ++ h) p) [] m) before ∙ ap (λ x. verdict a.stmt x [] m) (at_here h) ∙ e;
       }
 
-  accepted_here : (a : Asked) (w : What) (rows : ℕ) (h : List Entry) (js : List JournalLine) → Suits a.stmt w → Entered b h js a (s.version + 1) w rows → Answers b h js a (accepted_reply w (s.version + 1) rows)
+  accepted_here : (a : Asked) (w : What) (rows : ℕ) (h : List Entry) (js : List JournalLine) → Suits a.stmt w → Entered b h js a (s.version + 1) w rows → Answers b h js [] a (accepted_reply w (s.version + 1) rows)
   accepted_here a (what.Put puts) rows h js suits entered = (suits, what.Put puts, entered)
   accepted_here a (what.Edge edge) rows h js suits entered = (suits, rows, entered)
   accepted_here a (what.MakeTable name columns) rows h js suits entered = (suits, what.MakeTable name columns, rows, entered)
@@ -76,13 +81,13 @@ module _ (b s : State) (older : List State) (h0 : List Entry) (j0 : List Journal
   accepted_here a (what.Cut table lo hi) rows h js suits entered = (suits, what.Cut table lo hi, rows, entered)
   accepted_here a (what.MakeStream def) rows h js suits entered = (suits, what.MakeStream def, rows, entered)
   accepted_here a (what.DropStream k) rows h js suits entered = (suits, what.DropStream k, rows, entered)
-  accepted_here a (what.Step stream upto moment) rows h js suits entered = (suits, what.Step stream upto moment, rows, entered)
-  accepted_here a what.Halt rows h js suits entered = (suits, what.Halt, rows, entered)
+  accepted_here a (what.Step stream upto moment) rows h js suits entered = absurd suits
+  accepted_here a what.Halt rows h js suits entered = absurd suits
 
-  begins_next : (session n m : ℕ) (w : What) → Begins b (step s (entry_at session n m w)) (s ∷ older) (h0 ++ entry_at session n m w ∷ []) (j0 ++ line_at (s.version + 1) session n m ∷ [])
-  begins_next session n m w = record {
-    states = ap (λ x. step (newest x) (entry_at session n m w) ∷ x) begins.states ∙ sym (trail_push (b ∷ []) h0 _);
-    version = step_version s (entry_at session n m w) ∙ omega (arith, begins.version, length-append h0 (entry_at session n m w ∷ []));
+  begins_next : (q : Stmt) (session n m : ℕ) (w : What) → Suits q w → Begins b (step (s ∷ []) (entry_at session n m w)) (s ∷ older) (h0 ++ entry_at session n m w ∷ []) (j0 ++ line_at (s.version + 1) session n m ∷ [])
+  begins_next q session n m w suits = record {
+    states = ap (λ x. x ∷ s ∷ older) (step_alone q s older (entry_at session n m w) suits) ∙ ap (λ x. step x (entry_at session n m w) ∷ x) begins.states ∙ sym (trail_push (b ∷ []) h0 _);
+    version = step_version (s ∷ []) (entry_at session n m w) ∙ omega (arith, begins.version, length-append h0 (entry_at session n m w ∷ []));
     lines = omega (arith, begins.lines, length-append h0 (entry_at session n m w ∷ []), length-append j0 (line_at (s.version + 1) session n m ∷ []));
   }
 
@@ -97,128 +102,186 @@ moments_more : (P : ℕ → ℕ → Type 0) (n : ℕ) (x : Entry) (h : List Entr
 moments_more P n x h ok later zero e is = let same : x ≡ e = cc in (n, omega arith, subst (λ (y : Entry). P n y.moment) same ok)
 moments_more P n x h ok later (suc k) e is = let found = later k e is in (found.0, omega (arith, found.1), found.2)
 
--- The rest of a run, told from where it begins.
-abbrev Outcome : (ℕ → ℕ → Type 0) → State → List Asked → List Asked → List Entry → List JournalLine → State → List State → ℕ → List (ℕ × ℕ × Reply) → List JournalLine → Type 0
-Outcome P b front qs h0 j0 s older c rs js = (h : List Entry) × IsHistory (s ∷ older) (front ++ qs) js h × Moments P (c + 1) h × EachAnswered b (h0 ++ h) (j0 ++ js) qs rs
+-- a history without halts, with one entry more before it
+no_halt_more : (q : Stmt) (x : Entry) (h : List Entry) → Suits q x.what → without_halts h ≡ h → without_halts (x ∷ h) ≡ x ∷ h
+no_halt_more q x h suits none = ap (λ b. cond (not b) (x ∷ without_halts h) (without_halts h)) (no_halt q x.what suits) ∙ ap (λ y. x ∷ y) none
 
-module _ (P : ℕ → ℕ → Type 0) (b s : State) (older : List State) (front qs : List Asked) (a : Asked) (h0 : List Entry) (j0 : List JournalLine) (c m : ℕ) (r : (ℕ × ℕ × Reply)) (rs : List (ℕ × ℕ × Reply)) (js rest : List JournalLine) (begins : Begins b s older h0 j0) where
+-- The rest of a run, told from where it begins.
+record Outcome (P : ℕ → ℕ → Type 0) (b : State) (front : List Asked) (ps : List Replied) (h0 : List Entry) (j0 : List JournalLine) (s : State) (older : List State) (c : ℕ) (js : List JournalLine) : Type 0 where
+  entries : List Entry
+  history : IsHistory (s ∷ older) (front ++ asked_of ps) js entries
+  moments : Moments P (c + 1) entries
+  no_halts : without_halts entries ≡ entries
+  answers : EachAnswers b (h0 ++ entries) (j0 ++ js) [] ps
+
+module _ (P : ℕ → ℕ → Type 0) (b s : State) (older : List State) (front : List Asked) (p : Replied) (ps : List Replied) (h0 : List Entry) (j0 : List JournalLine) (c m : ℕ) (js rest : List JournalLine) (begins : Begins b s older h0 j0) where
   -- a turn without an entry
-  kept : (v : Option Verdict) → r ≡ reply_line_at a.session a.ordinal (reply_of a.stmt v s) → js ≡ rest → ((h : List Entry) → Answers b (h0 ++ h) (j0 ++ rest) a (reply_of a.stmt v s)) → Outcome P b (front ++ a ∷ []) qs h0 j0 s older (c + clock_reads a.stmt) rs rest → Outcome P b front (a ∷ qs) h0 j0 s older c (r ∷ rs) js
-  kept v reply lines answers later =
-      let told : Outcome P b front (a ∷ qs) h0 j0 s older c (reply_line_at a.session a.ordinal (reply_of a.stmt v s) ∷ rs) rest = (later.0, subst (λ x. IsHistory (s ∷ older) x rest later.0) (append_assoc front (a ∷ []) qs) later.1, moments_later P (c + 1) (c + clock_reads a.stmt + 1) later.0 (omega arith) later.2, (refl, refl, answers later.0, later.3)) in
-      subst (λ y. Outcome P b front (a ∷ qs) h0 j0 s older c (r ∷ rs) y) (sym lines) (subst (λ x. Outcome P b front (a ∷ qs) h0 j0 s older c (x ∷ rs) rest) (sym reply) told)
+  kept : js ≡ rest → ((h : List Entry) → Answers b (h0 ++ h) (j0 ++ rest) [] p.asked p.reply) → Outcome P b (front ++ p.asked ∷ []) ps h0 j0 s older (c + clock_reads p.asked.stmt) rest → Outcome P b front (p ∷ ps) h0 j0 s older c js
+  kept lines answers later =
+      let told : Outcome P b front (p ∷ ps) h0 j0 s older c rest = record {
+        entries = later.entries;
+        history = subst (λ x. IsHistory (s ∷ older) x rest later.entries) (append_assoc front (p.asked ∷ []) (asked_of ps)) later.history;
+        moments = moments_later P (c + 1) (c + clock_reads p.asked.stmt + 1) later.entries (omega arith) later.moments;
+        no_halts = later.no_halts;
+        answers = (answers later.entries, later.answers);
+      } in
+      subst (λ y. Outcome P b front (p ∷ ps) h0 j0 s older c y) (sym lines) told
 
   -- a turn with an entry
-  entered : (w : What) (rows : ℕ) → a.ordinal ≡ count_of a.session front + 1 → Unseen front → verdict a.stmt s m ≡ Accept w rows → MayBe P s (c + clock_reads a.stmt) m → r ≡ reply_line_at a.session a.ordinal (reply_of a.stmt (Some (Accept w rows)) s) → js ≡ line_at (s.version + 1) a.session a.ordinal m ∷ rest
-      → Outcome P b (front ++ a ∷ []) qs (h0 ++ entry_at a.session a.ordinal m w ∷ []) (j0 ++ line_at (s.version + 1) a.session a.ordinal m ∷ []) (step s (entry_at a.session a.ordinal m w)) (s ∷ older) (c + clock_reads a.stmt) rs rest → Outcome P b front (a ∷ qs) h0 j0 s older c (r ∷ rs) js
-  entered w rows counts unseen e ok reply lines later =
-      let h = later.0 in
+  entered : (w : What) (rows : ℕ) → p.asked.ordinal ≡ count_of p.asked.session front + 1 → Unseen front → verdict p.asked.stmt s [] m ≡ Accept w rows → Fits p.asked.stmt (Accept w rows) → MayBe P s (c + clock_reads p.asked.stmt) m → p.reply ≡ accepted_reply w (s.version + 1) rows → js ≡ line_at (s.version + 1) p.asked.session p.asked.ordinal m ∷ rest
+      → Outcome P b (front ++ p.asked ∷ []) ps (h0 ++ entry_at p.asked.session p.asked.ordinal m w ∷ []) (j0 ++ line_at (s.version + 1) p.asked.session p.asked.ordinal m ∷ []) (step (s ∷ []) (entry_at p.asked.session p.asked.ordinal m w)) (s ∷ older) (c + clock_reads p.asked.stmt) rest → Outcome P b front (p ∷ ps) h0 j0 s older c js
+  entered w rows counts unseen e fit ok reply lines later =
+      let a = p.asked in
+      let h = later.entries in
       let entry = entry_at a.session a.ordinal m w in
       let line = line_at (s.version + 1) a.session a.ordinal m in
-      let named : entry_of s (front ++ a ∷ qs) line ≡ Some entry = rw (statement_here front qs a counts unseen, e) refl in
-      let history = subst (λ x. IsHistory (step s entry ∷ s ∷ older) x rest h) (append_assoc front (a ∷ []) qs) later.1 in
-      let each = subst (λ x. EachAnswered b x ((j0 ++ line ∷ []) ++ rest) qs rs) (append_assoc h0 (entry ∷ []) h) later.3 in
-      let each' = subst (λ x. EachAnswered b (h0 ++ entry ∷ h) x qs rs) (append_assoc j0 (line ∷ []) rest) each in
-      let fit : Fits a.stmt (Accept w rows) = subst (Fits a.stmt) e (fits a.stmt s m) in
+      let named : entry_of s (front ++ a ∷ asked_of ps) line ≡ Some entry = rw (statement_here front (asked_of ps) a counts unseen, e) refl in
+      let next = subst (λ (x : State). IsHistory (x ∷ s ∷ older) ((front ++ a ∷ []) ++ asked_of ps) rest h) (step_alone a.stmt s older entry fit.0) later.history in
+      let history = subst (λ x. IsHistory (step (s ∷ older) entry ∷ s ∷ older) x rest h) (append_assoc front (a ∷ []) (asked_of ps)) next in
+      let each = subst (λ x. EachAnswers b x ((j0 ++ line ∷ []) ++ rest) [] ps) (append_assoc h0 (entry ∷ []) h) later.answers in
+      let each' = subst (λ x. EachAnswers b (h0 ++ entry ∷ h) x [] ps) (append_assoc j0 (line ∷ []) rest) each in
       let one : c + clock_reads a.stmt ≡ c + 1 = omega (arith, reads_one a.stmt w rows fit) in
       let answers = accepted_here b s older h0 j0 begins a w rows (h0 ++ entry ∷ h) (j0 ++ line ∷ rest) fit.0 (entered_here b s older h0 j0 begins a w rows m (entry ∷ h) rest e) in
-      let told : Outcome P b front (a ∷ qs) h0 j0 s older c (reply_line_at a.session a.ordinal (reply_of a.stmt (Some (Accept w rows)) s) ∷ rs) (line ∷ rest) =
-      (entry ∷ h, (refl, refl, ok.0, named, history), moments_more P (c + 1) entry h (subst (λ x. P x m) one ok.2) (subst (λ x. Moments P (x + 1) h) one later.2), (refl, refl, answers, each')) in
-      subst (λ y. Outcome P b front (a ∷ qs) h0 j0 s older c (r ∷ rs) y) (sym lines) (subst (λ x. Outcome P b front (a ∷ qs) h0 j0 s older c (x ∷ rs) (line ∷ rest)) (sym reply) told)
+      let told : Outcome P b front (p ∷ ps) h0 j0 s older c (line ∷ rest) = record {
+        entries = entry ∷ h;
+        history = (ok.0, named, history);
+        moments = moments_more P (c + 1) entry h (subst (λ x. P x m) one ok.2) (subst (λ x. Moments P (x + 1) h) one later.moments);
+        no_halts = no_halt_more a.stmt entry h fit.0 later.no_halts;
+        answers = (subst (Answers b (h0 ++ entry ∷ h) (j0 ++ line ∷ rest) [] a) (sym reply) answers, each');
+      } in
+      subst (λ y. Outcome P b front (p ∷ ps) h0 j0 s older c y) (sym lines) told
 
 -- what the replies and the lines of a rest of a run are to each other, from a version on
-record InRun (front : ℕ) (before qs : List Asked) (rs : List (ℕ × ℕ × Reply)) (js : List JournalLine) : Type 0 where
-  order : InOrder front rs
-  own : listed js ≡ accepted rs
+record InRun (front : ℕ) (before : List Asked) (ps : List Replied) (js : List JournalLine) : Type 0 where
+  order : AreFronts front (map number ps)
+  versions : RunsOn front js
+  own : AreAccepted (map reply_line ps) js
+  listed_are : listed js ≡ accepted (map reply_line ps)
   rising : RisesAfter before js
-  each : length rs ≡ length qs
 
 -- an accepted statement's reply is of the next version
-record IsNext (front session n : ℕ) (r : Reply) : Type 0 where
-  order : NumberIs front r
-  front_is : front_after front r ≡ front + 1
-  version : (rest : List (ℕ × ℕ × ℕ)) → with_version (version_of r) session n rest ≡ (front + 1, session, n) ∷ rest
+record IsNext (q : Stmt) (version : ℕ) (r : Reply) : Type 0 where
+  number_is : number_of q r ≡ of_entry version
+  version_is : version_of r ≡ Some version
 
-next_reply : (w : What) (front session n rows : ℕ) → IsNext front session n (accepted_reply w (front + 1) rows)
-next_reply (what.Put puts) front session n rows = record { order = refl; front_is = refl; version = λ rest. refl }
-next_reply (what.MakeTable name columns) front session n rows = record { order = refl; front_is = refl; version = λ rest. refl }
-next_reply (what.MakeStable name schema) front session n rows = record { order = refl; front_is = refl; version = λ rest. refl }
-next_reply (what.MakeSub name stable tags) front session n rows = record { order = refl; front_is = refl; version = λ rest. refl }
-next_reply (what.Cut table lo hi) front session n rows = record { order = refl; front_is = refl; version = λ rest. refl }
-next_reply (what.MakeStream def) front session n rows = record { order = refl; front_is = refl; version = λ rest. refl }
-next_reply (what.DropStream k) front session n rows = record { order = refl; front_is = refl; version = λ rest. refl }
-next_reply (what.Edge edge) front session n rows = record { order = refl; front_is = refl; version = λ rest. refl }
-next_reply (what.Step stream upto moment) front session n rows = record { order = refl; front_is = refl; version = λ rest. refl }
-next_reply what.Halt front session n rows = record { order = refl; front_is = refl; version = λ rest. refl }
+next_reply : (q : Stmt) (w : What) (version rows : ℕ) → IsNext q version (accepted_reply w version rows)
+next_reply q (what.Put puts) version rows = record { number_is = refl; version_is = refl }
+next_reply q (what.MakeTable name columns) version rows = record { number_is = refl; version_is = refl }
+next_reply q (what.MakeStable name schema) version rows = record { number_is = refl; version_is = refl }
+next_reply q (what.MakeSub name stable tags) version rows = record { number_is = refl; version_is = refl }
+next_reply q (what.Cut table lo hi) version rows = record { number_is = refl; version_is = refl }
+next_reply q (what.MakeStream def) version rows = record { number_is = refl; version_is = refl }
+next_reply q (what.DropStream k) version rows = record { number_is = refl; version_is = refl }
+next_reply q (what.Edge edge) version rows = record { number_is = refl; version_is = refl }
+next_reply q (what.Step stream upto moment) version rows = record { number_is = refl; version_is = refl }
+next_reply q what.Halt version rows = record { number_is = refl; version_is = refl }
 
-one_more : (w : What) (front : ℕ) (before qs : List Asked) (a : Asked) (m rows : ℕ) (rs : List (ℕ × ℕ × Reply)) (js : List JournalLine) → a.ordinal ≡ count_of a.session before + 1 → InRun (front + 1) (before ++ a ∷ []) qs rs js → InRun front before (a ∷ qs) (reply_line_at a.session a.ordinal (accepted_reply w (front + 1) rows) ∷ rs) (line_at (front + 1) a.session a.ordinal m ∷ js)
-one_more w front before qs a m rows rs js counts later =
-    let is = next_reply w front a.session a.ordinal rows in
+-- what is among replies is among them with one more before them
+contains_later : (rs : List (ℕ × ℕ × Reply)) (x r : (ℕ × ℕ × Reply)) → Contains rs r → Contains (x ∷ rs) r
+contains_later rs x r has = (suc has.0, omega (arith, has.1), has.2)
+
+own_later : (rs : List (ℕ × ℕ × Reply)) (x : (ℕ × ℕ × Reply)) (js : List JournalLine) → AreAccepted rs js → AreAccepted (x ∷ rs) js
+own_later rs x [] own = tt
+own_later rs x (j ∷ js) own = ((λ some. let found = own.0 some in (found.0, contains_later rs x (j.session, j.ordinal, found.0) found.1, found.2)), own_later rs x js own.1)
+
+own_first : (rs : List (ℕ × ℕ × Reply)) (j : JournalLine) (r : Reply) → version_of r ≡ Some j.version → IsAccepted ((j.session, j.ordinal, r) ∷ rs) j
+own_first rs j r is some = (r, (zero, omega arith, refl), is)
+
+one_more : (w : What) (front : ℕ) (before : List Asked) (p : Replied) (ps : List Replied) (m rows : ℕ) (js : List JournalLine) → p.asked.ordinal ≡ count_of p.asked.session before + 1 → p.reply ≡ accepted_reply w (front + 1) rows → InRun (front + 1) (before ++ p.asked ∷ []) ps js → InRun front before (p ∷ ps) (line_at (front + 1) p.asked.session p.asked.ordinal m ∷ js)
+one_more w front before p ps m rows js counts reply later =
+    let a = p.asked in
+    let is = next_reply a.stmt w (front + 1) rows in
+    let number_is : number p ≡ of_entry (front + 1) = ap (number_of a.stmt) reply ∙ is.number_is in
+    let version_is : version_of p.reply ≡ Some (front + 1) = ap version_of reply ∙ is.version_is in
+    let line = line_at (front + 1) a.session a.ordinal m in
     record {
-      order = (is.order, subst (λ f. InOrder f rs) (sym is.front_is) later.order);
-      own = ap (λ x. (front + 1, a.session, a.ordinal) ∷ x) later.own ∙ sym (is.version (accepted rs));
-      rising = rises_with before a (line_at (front + 1) a.session a.ordinal m) js counts refl refl later.rising;
-      each = omega (arith, later.each);
+      order = subst (λ n. AreFronts front (n ∷ map number ps)) (sym number_is) (refl, later.order);
+      versions = (refl, later.versions);
+      own = (own_first (map reply_line ps) line p.reply version_is, own_later (map reply_line ps) (reply_line p) js later.own);
+      listed_are = ap (λ x. (front + 1, a.session, a.ordinal) ∷ x) later.listed_are ∙ ap (λ v. with_version v a.session a.ordinal (accepted (map reply_line ps))) (sym version_is);
+      rising = rises_with before a line js counts refl refl later.rising;
+    }
+
+-- a turn without an entry
+none_more : (front : ℕ) (before : List Asked) (p : Replied) (ps : List Replied) (js : List JournalLine) (n : Number) → number p ≡ n → IsFront front n → front_after front n ≡ front → version_of p.reply ≡ None → InRun front (before ++ p.asked ∷ []) ps js → InRun front before (p ∷ ps) js
+none_more front before p ps js n number_is is stays version_is later =
+    record {
+      order = subst (λ x. AreFronts front (x ∷ map number ps)) (sym number_is) (is, subst (λ f. AreFronts f (map number ps)) (sym stays) later.order);
+      versions = later.versions;
+      own = own_later (map reply_line ps) (reply_line p) js later.own;
+      listed_are = later.listed_are ∙ ap (λ v. with_version v p.asked.session p.asked.ordinal (accepted (map reply_line ps))) (sym version_is);
+      rising = rises_without before p.asked js later.rising;
     }
 
 module _ (P : ℕ → ℕ → Type 0) (b : State) where
-  told_from : (front qs : List Asked) (h0 : List Entry) (j0 : List JournalLine) (s t : State) (older : List State) (c : ℕ) (rs : List (ℕ × ℕ × Reply)) (js : List JournalLine) → Begins b s older h0 j0 → Unseen front → Counted front qs → Plays P c s qs rs js t → Outcome P b front qs h0 j0 s older c rs js
-  told_from front [] h0 j0 s t older c [] js begins unseen counted p = rw p.0 ([], tt, (λ k e is. cc), tt)
-  told_from front [] h0 j0 s t older c (r ∷ rs) js begins unseen counted p = absurd p
-  told_from front (a ∷ qs) h0 j0 s t older c [] js begins unseen counted p = absurd p
-  told_from front (a ∷ qs) h0 j0 s t older c (r ∷ rs) js begins unseen counted p =
-      let m = p.0 in
+  told_from : (front : List Asked) (ps : List Replied) (h0 : List Entry) (j0 : List JournalLine) (s t : State) (older : List State) (c : ℕ) (js : List JournalLine) → Begins b s older h0 j0 → Unseen front → Counted front (asked_of ps) → Plays P c s ps js t → Outcome P b front ps h0 j0 s older c js
+  told_from front [] h0 j0 s t older c js begins unseen counted play = rw play.0 (record { entries = []; history = tt; moments = λ k e is. cc; no_halts = refl; answers = tt })
+  told_from front (p ∷ ps) h0 j0 s t older c js begins unseen counted play =
+      let m = play.0 in
+      let a = p.asked in
       let seen = unseen_more front a counted.0 unseen in
-      elim p.2 as (λ v. Judged v (verdict a.stmt s m) → r ≡ reply_line_at a.session a.ordinal (reply_of a.stmt v s) → js ≡ as_list (line_then v s a.session a.ordinal m) ++ p.5 → Plays P (c + clock_reads a.stmt) (state_then v s a.session a.ordinal m) qs rs p.5 t → Outcome P b front (a ∷ qs) h0 j0 s older c (r ∷ rs) js) [
-        | Some (Accept w rows) ↦ λ e reply lines rest. entered P b s older front qs a h0 j0 c m r rs js p.5 begins w rows counted.0 unseen (sym e) p.1 reply lines
-            (told_from (front ++ a ∷ []) qs (h0 ++ entry_at a.session a.ordinal m w ∷ []) (j0 ++ line_at (s.version + 1) a.session a.ordinal m ∷ []) (step s (entry_at a.session a.ordinal m w)) t (s ∷ older) (c + clock_reads a.stmt) rs p.5 (begins_next b s older h0 j0 begins a.session a.ordinal m w) seen counted.1 rest)
-        | Some Pass ↦ λ e reply lines rest. kept P b s older front qs a h0 j0 c m r rs js p.5 begins (Some Pass) reply lines
-            (λ h. (subst (Fits a.stmt) (sym e) (fits a.stmt s m), judged_here b s older h0 j0 begins a.stmt Pass m h p.5 p.1.0 p.1.1 (sym e), ap (header a.stmt) (sym (at_here b s older h0 j0 begins h)), ap (answer a.stmt) (sym (at_here b s older h0 j0 begins h))))
-            (told_from (front ++ a ∷ []) qs h0 j0 s t older (c + clock_reads a.stmt) rs p.5 begins seen counted.1 rest)
-        | Some (Refuse cause) ↦ λ e reply lines rest. kept P b s older front qs a h0 j0 c m r rs js p.5 begins (Some (Refuse cause)) reply lines
-            (λ h. judged_here b s older h0 j0 begins a.stmt (Refuse cause) m h p.5 p.1.0 p.1.1 (sym e))
-            (told_from (front ++ a ∷ []) qs h0 j0 s t older (c + clock_reads a.stmt) rs p.5 begins seen counted.1 rest)
-        | None ↦ λ e reply lines rest. kept P b s older front qs a h0 j0 c m r rs js p.5 begins None reply lines
-            (λ h. tt)
-            (told_from (front ++ a ∷ []) qs h0 j0 s t older (c + clock_reads a.stmt) rs p.5 begins seen counted.1 rest)
-      ] p.3 p.4 p.6 p.7
+      let fit = fits a.stmt s [] m in
+      elim play.2 as (λ v. Judged v (verdict a.stmt s [] m) → p.reply ≡ reply_of a.stmt v s → js ≡ as_list (line_then v s a.session a.ordinal m) ++ play.5 → Plays P (c + clock_reads a.stmt) (state_then v s a.session a.ordinal m) ps play.5 t → Outcome P b front (p ∷ ps) h0 j0 s older c js) [
+        | Some (Accept w rows) ↦ λ e reply lines rest.
+            let fit' : Fits a.stmt (Accept w rows) = subst (Fits a.stmt) (sym e) fit in
+            entered P b s older front p ps h0 j0 c m js play.5 begins w rows counted.0 unseen (sym e) fit' play.1 reply lines
+            (told_from (front ++ a ∷ []) ps (h0 ++ entry_at a.session a.ordinal m w ∷ []) (j0 ++ line_at (s.version + 1) a.session a.ordinal m ∷ []) (step (s ∷ []) (entry_at a.session a.ordinal m w)) t (s ∷ older) (c + clock_reads a.stmt) play.5 (begins_next b s older h0 j0 begins a.stmt a.session a.ordinal m w fit'.0) seen counted.1 rest)
+        | Some Pass ↦ λ e reply lines rest. kept P b s older front p ps h0 j0 c m js play.5 begins lines
+            (λ h. subst (Answers b (h0 ++ h) (j0 ++ play.5) [] a) (sym reply) (subst (Fits a.stmt) (sym e) fit, judged_here b s older h0 j0 begins a.stmt Pass m h play.5 play.1.0 play.1.1 (sym e), ap (header a.stmt) (sym (at_here b s older h0 j0 begins h)), ap (answer a.stmt) (sym (at_here b s older h0 j0 begins h))))
+            (told_from (front ++ a ∷ []) ps h0 j0 s t older (c + clock_reads a.stmt) play.5 begins seen counted.1 rest)
+        | Some (Refuse cause) ↦ λ e reply lines rest. kept P b s older front p ps h0 j0 c m js play.5 begins lines
+            (λ h. subst (Answers b (h0 ++ h) (j0 ++ play.5) [] a) (sym reply) (judged_here b s older h0 j0 begins a.stmt (Refuse cause) m h play.5 play.1.0 play.1.1 (sym e)))
+            (told_from (front ++ a ∷ []) ps h0 j0 s t older (c + clock_reads a.stmt) play.5 begins seen counted.1 rest)
+        | None ↦ λ e reply lines rest. kept P b s older front p ps h0 j0 c m js play.5 begins lines
+            (λ h. subst (Answers b (h0 ++ h) (j0 ++ play.5) [] a) (sym reply) tt)
+            (told_from (front ++ a ∷ []) ps h0 j0 s t older (c + clock_reads a.stmt) play.5 begins seen counted.1 rest)
+      ] play.3 play.4 play.6 play.7
 
   -- the numbers of the replies run with the front, and the journal lists the accepted ones, each once
-  in_order_from : (before qs : List Asked) (s t : State) (c : ℕ) (rs : List (ℕ × ℕ × Reply)) (js : List JournalLine) → Counted before qs → Plays P c s qs rs js t → InRun s.version before qs rs js
-  in_order_from before [] s t c [] js counted p = rw p.0 (record { order = tt; own = refl; rising = λ session. tt; each = refl })
-  in_order_from before [] s t c (r ∷ rs) js counted p = absurd p
-  in_order_from before (a ∷ qs) s t c [] js counted p = absurd p
-  in_order_from before (a ∷ qs) s t c (r ∷ rs) js counted p =
-      let m = p.0 in
-      elim p.2 as (λ v. r ≡ reply_line_at a.session a.ordinal (reply_of a.stmt v s) → js ≡ as_list (line_then v s a.session a.ordinal m) ++ p.5 → Plays P (c + clock_reads a.stmt) (state_then v s a.session a.ordinal m) qs rs p.5 t → InRun s.version before (a ∷ qs) (r ∷ rs) js) [
-        | Some (Accept w rows) ↦ λ reply lines rest. let later = in_order_from (before ++ a ∷ []) qs _ t (c + clock_reads a.stmt) rs p.5 counted.1 rest in
-            rw (reply, lines) (one_more w s.version before qs a m rows rs p.5 counted.0 (subst (λ f. InRun f (before ++ a ∷ []) qs rs p.5) (step_version s (entry_at a.session a.ordinal m w)) later))
-        | Some Pass ↦ λ reply lines rest. let later = in_order_from (before ++ a ∷ []) qs _ t (c + clock_reads a.stmt) rs p.5 counted.1 rest in
-            rw (reply, lines) (record { order = (refl, later.order); own = later.own; rising = rises_without before a p.5 later.rising; each = omega (arith, later.each) })
-        | Some (Refuse cause) ↦ λ reply lines rest. let later = in_order_from (before ++ a ∷ []) qs _ t (c + clock_reads a.stmt) rs p.5 counted.1 rest in
-            rw (reply, lines) (record { order = (refl, later.order); own = later.own; rising = rises_without before a p.5 later.rising; each = omega (arith, later.each) })
-        | None ↦ λ reply lines rest. let later = in_order_from (before ++ a ∷ []) qs _ t (c + clock_reads a.stmt) rs p.5 counted.1 rest in
-            rw (reply, lines) (record { order = (tt, later.order); own = later.own; rising = rises_without before a p.5 later.rising; each = omega (arith, later.each) })
-      ] p.4 p.6 p.7
+  in_order_from : (before : List Asked) (ps : List Replied) (s t : State) (c : ℕ) (js : List JournalLine) → Counted before (asked_of ps) → Plays P c s ps js t → InRun s.version before ps js
+  in_order_from before [] s t c js counted play = rw play.0 (record { order = tt; versions = tt; own = tt; listed_are = refl; rising = λ session. tt })
+  in_order_from before (p ∷ ps) s t c js counted play =
+      let m = play.0 in
+      let a = p.asked in
+      elim play.2 as (λ v. Judged v (verdict a.stmt s [] m) → p.reply ≡ reply_of a.stmt v s → js ≡ as_list (line_then v s a.session a.ordinal m) ++ play.5 → Plays P (c + clock_reads a.stmt) (state_then v s a.session a.ordinal m) ps play.5 t → InRun s.version before (p ∷ ps) js) [
+        | Some (Accept w rows) ↦ λ e reply lines rest.
+            let later = in_order_from (before ++ a ∷ []) ps _ t (c + clock_reads a.stmt) play.5 counted.1 rest in
+            subst (InRun s.version before (p ∷ ps)) (sym lines) (one_more w s.version before p ps m rows play.5 counted.0 reply (subst (λ f. InRun f (before ++ a ∷ []) ps play.5) (step_version (s ∷ []) (entry_at a.session a.ordinal m w)) later))
+        | Some Pass ↦ λ e reply lines rest.
+            let later = in_order_from (before ++ a ∷ []) ps s t (c + clock_reads a.stmt) play.5 counted.1 rest in
+            let query : is_query a.stmt ≡ true = subst (Fits a.stmt) (sym e) (fits a.stmt s [] m) in
+            subst (InRun s.version before (p ∷ ps)) (sym lines) (none_more s.version before p ps play.5 (of_state s.version) (ap (number_of a.stmt) reply ∙ answer_numbered a.stmt s.version query) refl refl (ap version_of reply) later)
+        | Some (Refuse cause) ↦ λ e reply lines rest.
+            let later = in_order_from (before ++ a ∷ []) ps s t (c + clock_reads a.stmt) play.5 counted.1 rest in
+            subst (InRun s.version before (p ∷ ps)) (sym lines) (none_more s.version before p ps play.5 (of_state s.version) (ap (number_of a.stmt) reply) refl refl (ap version_of reply) later)
+        | None ↦ λ e reply lines rest.
+            let later = in_order_from (before ++ a ∷ []) ps s t (c + clock_reads a.stmt) play.5 counted.1 rest in
+            subst (InRun s.version before (p ∷ ps)) (sym lines) (none_more s.version before p ps play.5 unnumbered (ap (number_of a.stmt) reply) tt refl (ap version_of reply) later)
+      ] play.3 play.4 play.6 play.7
 
-  pub told_of_plays : (readings : Option (List ℕ)) → ((h : List Entry) → Moments P 1 h → Timed readings b.moment h) → (qs : List Asked) (rs : List (ℕ × ℕ × Reply)) (js : List JournalLine) (t : State) → Counted [] qs → Plays P 0 b qs rs js t → ToldInOrder b readings qs (record { base = b.version; replies = rs; streams = []; journal = js })
-  told_of_plays readings times qs rs js t counted p =
+  -- what must be known of the moments for them to be timed
+  pub told_of_plays : (readings : Option (List ℕ)) → ((h : List Entry) → without_halts h ≡ h → Moments P 1 h → Timed readings b.moment h) → (ps : List Replied) (rs : List (ℕ × ℕ × Reply)) (js : List JournalLine) (t : State) → rs ≡ map reply_line ps → Counted [] (asked_of ps) → Plays P 0 b ps js t → ToldInOrder b readings (asked_of ps) (record { base = b.version; replies = rs; streams = []; journal = js })
+  told_of_plays readings times ps rs js t replies counted play =
       let none : Unseen [] = λ session ordinal l. refl in
-      let all = told_from [] qs [] [] b t [] 0 rs js (record { states = refl; version = omega arith; lines = refl }) none counted p in
-      let run = in_order_from [] qs b t 0 rs js counted p in
+      let all = told_from [] ps [] [] b t [] 0 js (record { states = refl; version = omega arith; lines = refl }) none counted play in
+      let run = in_order_from [] ps b t 0 js counted play in
       let low : b.version ≤ b.version = omega arith in
       record {
         told = record {
           base = refl;
-          entries = all.0;
-          history = all.1;
-          replies = all.3;
-          own_entries = run.own;
-          one_each = run.rising;
-          numbers = λ session. session_numbers session b.version b.version rs low run.order;
-          phases = phase_numbers 0 b.version b.version b.version qs rs run.each low low run.order;
+          versions = run.versions;
+          entries = all.entries;
+          history = all.history;
+          replied = ps;
+          replies = record { statements_are = refl; replies_are = replies };
+          answers = all.answers;
+          own_lines = subst (λ x. AreAccepted x js) (sym replies) run.own;
+          one_each = λ session some. run.rising session;
+          numbers = λ session. session_numbers session b.version b.version ps low run.order;
+          phases = phase_numbers 0 b.version b.version b.version ps low low run.order;
           streams = refl;
-          moments = times all.0 all.2;
+          moments = times all.entries all.no_halts all.moments;
         };
+        own_entries = run.listed_are ∙ ap accepted (sym replies);
         in_order = run.order;
       }

@@ -12,7 +12,8 @@ pub record Asked : Type 0 where
 -- the statement of a session and ordinal
 abbrev pub statement_at : List Asked → ℕ → ℕ → Option Stmt
 statement_at [] session ordinal = None
-statement_at (a ∷ script) session ordinal = if (a.session == session) && (a.ordinal == ordinal) then Some a.stmt else statement_at script session ordinal
+statement_at (a ∷ script) session ordinal =
+    if (a.session == session) && (a.ordinal == ordinal) then Some a.stmt else statement_at script session ordinal
 
 -- how many statements a session has
 abbrev pub count_of : ℕ → List Asked → ℕ

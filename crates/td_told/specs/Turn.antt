@@ -38,14 +38,16 @@ reply_of q None s = reply.NoMemory
 abbrev pub entry_at : ℕ → ℕ → ℕ → What → Entry
 entry_at session ordinal moment w = record { session = session; ordinal = ordinal; moment = moment; what = w }
 
+-- the entry of a statement looks at no state before the one that it is judged in
 abbrev pub state_then : Option Verdict → State → ℕ → ℕ → ℕ → State
-state_then (Some (Accept w rows)) s session ordinal moment = step s (entry_at session ordinal moment w)
+state_then (Some (Accept w rows)) s session ordinal moment = step (s ∷ []) (entry_at session ordinal moment w)
 state_then (Some Pass) s session ordinal moment = s
 state_then (Some (Refuse cause)) s session ordinal moment = s
 state_then None s session ordinal moment = s
 
 abbrev pub line_at : ℕ → ℕ → ℕ → ℕ → JournalLine
-line_at version session ordinal moment = record { version = version; session = session; ordinal = ordinal; moment = moment; mark = mark.Plain }
+line_at version session ordinal moment =
+    record { version = version; session = session; ordinal = ordinal; moment = moment; mark = mark.Plain }
 
 abbrev pub line_then : Option Verdict → State → ℕ → ℕ → ℕ → Option JournalLine
 line_then (Some (Accept w rows)) s session ordinal moment = Some (line_at (s.version + 1) session ordinal moment)
@@ -58,14 +60,19 @@ as_list None = []
 as_list (Some j) = j ∷ []
 
 -- the reply, the line and the state after are those of a verdict, or of none
-pub record TurnIs (q : Stmt) (v : Option Verdict) (s t : State) (session ordinal moment : ℕ) (r : Reply) (l : Option JournalLine) : Type 0 where
+pub record TurnIs
+    (q : Stmt) (v : Option Verdict) (s t : State) (session ordinal moment : ℕ) (r : Reply) (l : Option JournalLine)
+    : Type 0 where
   pub reply : r ≡ reply_of q v s
   pub line : l ≡ line_then v s session ordinal moment
   pub state : t ≡ state_then v s session ordinal moment
 
--- they are those of the statement's verdict at the moment, or there was no memory
+-- They are those of the statement's verdict at the moment, where the session has no cursor open, or there was no
+-- memory.
 abbrev pub TurnAnswers : Stmt → State → State → ℕ → ℕ → ℕ → Reply → Option JournalLine → Type 0
-TurnAnswers q s t session ordinal moment r line = TurnIs q (Some (verdict q s moment)) s t session ordinal moment r line ⊎ TurnIs q None s t session ordinal moment r line
+TurnAnswers q s t session ordinal moment r line =
+    TurnIs q (Some (verdict q s [] moment)) s t session ordinal moment r line
+    ⊎ TurnIs q None s t session ordinal moment r line
 
 -- a reply with its statement's session and ordinal
 abbrev pub reply_line_at : ℕ → ℕ → Reply → (ℕ × ℕ × Reply)

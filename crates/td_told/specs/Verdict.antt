@@ -4,27 +4,35 @@ use Rattle.td_layer.specs.declared.values.Cell.{Cell}
 use Rattle.td_model.specs.declared.language.Stmt.{Stmt}
 use Rattle.td_model.specs.declared.language.Stmt.TheVariants as stmt
 use Rattle.td_model.specs.declared.history.Verdict.{Verdict}
-use Rattle.td_model.specs.declared.history.Verdict.TheVariants.{Refuse}
+use Rattle.td_model.specs.declared.history.Verdict.TheVariants.{Pass, Refuse}
 use Rattle.td_model.specs.declared.report.Cause.TheVariants.{OptionNotBuilt}
+use Rattle.td_model.specs.Built.{is_write, is_built}
 use Rattle.td_model.specs.State.{State}
-use Rattle.td_verdict.specs.Writes.{is_write, write_verdict}
+use Rattle.td_verdict.specs.Writes.{write_verdict}
 use Rattle.td_verdict.specs.Queries.{query_verdict}
 use Rattle.td_verdict.specs.Answers as answers
 
--- whether a statement's turn reads the clock: that of a write and of a text that is no statement does, that of a query doesn't
+-- whether a statement's turn reads the clock: that of a write and of a text that is no statement does, that of a query
+-- doesn't
 abbrev pub reads_clock : Stmt → Bool
 reads_clock (stmt.Wrong cause) = true
 reads_clock q = is_write q
 
--- the verdict of a statement that is no write: a text that is no statement has its cause, and no form but a SELECT is built
-abbrev pub read_verdict : Stmt → State → Verdict
-read_verdict (stmt.Wrong why) s = Refuse why
-read_verdict (stmt.Select query) s = query_verdict query s.catalog
-read_verdict _ s = Refuse OptionNotBuilt
+-- what a built form that is no write meets in a state, where the session has cursors of these names open
+abbrev pub read_verdict : Stmt → State → List (List ℕ) → Verdict
+read_verdict (stmt.Select query) s cursors = query_verdict query s.catalog
+read_verdict _ s cursors = Pass
 
--- what a statement meets in a state, at a moment
-abbrev pub verdict : Stmt → State → ℕ → Verdict
-verdict q s moment = if is_write q then write_verdict q s.catalog s.edge moment else read_verdict q s
+-- what a built form meets in a state, at a moment
+abbrev pub form_verdict : Stmt → State → List (List ℕ) → ℕ → Verdict
+form_verdict q s cursors moment =
+    if is_write q then write_verdict q s.catalog s.edge moment else read_verdict q s cursors
+
+-- What a statement meets in a state, at a moment, where the session has cursors of these names open: a text that is no
+-- statement has its own cause; then the form must be built; then comes what the form meets.
+abbrev pub verdict : Stmt → State → List (List ℕ) → ℕ → Verdict
+verdict (stmt.Wrong cause) s cursors moment = Refuse cause
+verdict q s cursors moment = if is_built q then form_verdict q s cursors moment else Refuse OptionNotBuilt
 
 -- the header and the rows that a statement is answered, where it is a query
 abbrev pub header : Stmt → State → List (List ℕ)

@@ -9,16 +9,5 @@ use td_model::Stmt;
 pub fn reads_clock(stmt: &Stmt) -> bool
     ensures { result ≡ reads_clock stmt.now }
 {
-    matches!(
-        stmt,
-        Stmt::Wrong(_)
-            | Stmt::MakeStable { .. }
-            | Stmt::MakeTable { .. }
-            | Stmt::MakeSub { .. }
-            | Stmt::Insert { .. }
-            | Stmt::Delete { .. }
-            | Stmt::MakeStream(_)
-            | Stmt::DropStream { .. }
-            | Stmt::Trim
-    )
+    matches!(stmt, Stmt::Wrong(_)) || stmt.is_write()
 }

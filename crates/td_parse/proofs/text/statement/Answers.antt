@@ -1,19 +1,28 @@
-use Rattle.std.proofs.Common.{length, subst, sym, refl}
-use Rattle.td_lex.specs.Tokens.{IsTokens, NoToken, WideFirst, FailsAt as FailsInText}
-use Rattle.td_parse.proofs.Answered.{answer_of_all, answer_without, answer_too_wide}
+use Rattle.std.proofs.Common.{◌≡◌, Some, None, inl, inr, arith}
+use Rattle.std.proofs.lemmas.Grind.{common_steps}
+use Rattle.td_lex.specs.declared.kinds.LexFault.TheVariants.{BadToken, TooWide}
+use Rattle.td_lex.specs.Laws.{Lexes}
+use Rattle.td_parse.specs.Statements.{lexemes, places}
+use Rattle.td_parse.proofs.Answered.{answer_of_all, answer_of_front}
 use Rattle.td_parse.proofs.text.statement.Goals as goal
 
-pub returns-in_ok-answer-in-Ok : goal.returns-in_ok-answer-in-Ok
-returns-in_ok-answer-in-Ok c =
-    answer_of_all c.args.text.now c.as_slice.result.now (length c.args.text.now) c.in_ok-answer-in-Ok.answer c.if-text-gt-LONGEST.false
-    (subst (λ ts. IsTokens c.args.text.now ts) (sym c.as_slice.ensures) c.in-Ok.ensures.answer) refl c.in_ok-answer-in-Ok.ensures
+pub returns-in-None : goal.returns-in-None
+returns-in-None c =
+    let read : Lexes c.args.text.now c.in_ok-tokens.tokens.items None = grind (arith, common_steps) in
+    let kinds : c.as_slice.result.now ≡ lexemes c.in_ok-tokens.tokens.items = grind (arith, common_steps) in
+    let ats : c.as_slice-in-None.result.now ≡ places c.in_ok-tokens.tokens.items = grind (arith, common_steps) in
+    answer_of_all c.args.text.now c.in_ok-tokens.tokens.items c.as_slice.result.now c.as_slice-in-None.result.now c.in_ok-answer-in-None.answer c.if-text-gt-STATEMENT_BYTES.false read kinds ats c.in_ok-answer-in-None.ensures
 
-pub returns-in_ok-answer-in-Err-BadToken : goal.returns-in_ok-answer-in-Err-BadToken
-returns-in_ok-answer-in-Err-BadToken c =
-    let h : FailsInText NoToken c.args.text.now c.in-Err-BadToken.at = rw c.in-Err-BadToken.field-0-is at c.in-Err-BadToken.ensures.answer in
-    answer_without c.args.text.now c.in-Err-BadToken.at c.in_ok-answer-in-Err-BadToken.answer c.if-text-gt-LONGEST.false h c.in_ok-answer-in-Err-BadToken.ensures
+pub returns-in-Some-BadToken : goal.returns-in-Some-BadToken
+returns-in-Some-BadToken c =
+    let read : Lexes c.args.text.now c.in_ok-tokens.tokens.items (Some (BadToken c.in-Some-BadToken.at)) = grind (arith, common_steps) in
+    let kinds : c.as_slice-in-Some-BadToken.result.now ≡ lexemes c.in_ok-tokens.tokens.items = grind (arith, common_steps) in
+    let ats : c.as_slice-in-Some-BadToken-2.result.now ≡ places c.in_ok-tokens.tokens.items = grind (arith, common_steps) in
+    answer_of_front c.args.text.now c.in_ok-tokens.tokens.items c.in-Some-BadToken.at c.as_slice-in-Some-BadToken.result.now c.as_slice-in-Some-BadToken-2.result.now c.in_ok-answer-in-Some-BadToken.answer c.if-text-gt-STATEMENT_BYTES.false (inl read) kinds ats c.in_ok-answer-in-Some-BadToken.ensures
 
-pub returns-in_ok-answer-in-Err-TooWide : goal.returns-in_ok-answer-in-Err-TooWide
-returns-in_ok-answer-in-Err-TooWide c =
-    let h : FailsInText WideFirst c.args.text.now c.in-Err-TooWide.at = rw c.in-Err-TooWide.field-0-is at c.in-Err-TooWide.ensures.answer in
-    answer_too_wide c.args.text.now c.in-Err-TooWide.at c.in_ok-answer-in-Err-TooWide.answer c.if-text-gt-LONGEST.false h c.in_ok-answer-in-Err-TooWide.ensures
+pub returns-in-Some-TooWide : goal.returns-in-Some-TooWide
+returns-in-Some-TooWide c =
+    let read : Lexes c.args.text.now c.in_ok-tokens.tokens.items (Some (TooWide c.in-Some-TooWide.at)) = grind (arith, common_steps) in
+    let kinds : c.as_slice-in-Some-TooWide.result.now ≡ lexemes c.in_ok-tokens.tokens.items = grind (arith, common_steps) in
+    let ats : c.as_slice-in-Some-TooWide-2.result.now ≡ places c.in_ok-tokens.tokens.items = grind (arith, common_steps) in
+    answer_of_front c.args.text.now c.in_ok-tokens.tokens.items c.in-Some-TooWide.at c.as_slice-in-Some-TooWide.result.now c.as_slice-in-Some-TooWide-2.result.now c.in_ok-answer-in-Some-TooWide.answer c.if-text-gt-STATEMENT_BYTES.false (inr read) kinds ats c.in_ok-answer-in-Some-TooWide.ensures

@@ -5,4 +5,4 @@ use Rattle.td_report.proofs.cells.push_more_names.Given as goal
 
 -- what was written and what is left to write are all
 abbrev pub invariant-loop-name : goal.invariant-loop-name
-invariant-loop-name l = l.out.items ++ flat_map more_name (drop l.name-index l.names) ≡ l.fn.out.items ++ flat_map more_name l.names
+invariant-loop-name l = l.out ++ flat_map more_name (drop l.name-index l.names) ≡ l.fn.out ++ flat_map more_name l.names

@@ -5,4 +5,4 @@ use Rattle.td_report.proofs.cells.push_quoted.Given as goal
 
 -- what was written and what is left to write are all
 abbrev pub invariant-loop-byte : goal.invariant-loop-byte
-invariant-loop-byte l = l.out.items ++ flat_map quoted_byte (drop l.byte-index l.text) ≡ l.fn.out.items ++ flat_map quoted_byte l.text
+invariant-loop-byte l = l.out ++ flat_map quoted_byte (drop l.byte-index l.text) ≡ l.fn.out ++ flat_map quoted_byte l.text

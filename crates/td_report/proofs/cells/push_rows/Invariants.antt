@@ -5,4 +5,4 @@ use Rattle.td_report.proofs.cells.push_rows.Given as goal
 
 -- what was written and what is left to write are all
 abbrev pub invariant-loop-row : goal.invariant-loop-row
-invariant-loop-row l = l.out.items ++ flat_map row_line (drop l.row-index l.rows) ≡ l.fn.out.items ++ flat_map row_line l.rows
+invariant-loop-row l = l.out ++ flat_map row_line (drop l.row-index l.rows) ≡ l.fn.out ++ flat_map row_line l.rows

@@ -5,4 +5,4 @@ use Rattle.td_report.proofs.journal.push_streams.Given as goal
 
 -- what was written and what is left to write are all
 abbrev pub invariant-loop-stream : goal.invariant-loop-stream
-invariant-loop-stream l = l.out.items ++ flat_map stream_line (drop l.stream-index l.streams) ≡ l.fn.out.items ++ flat_map stream_line l.streams
+invariant-loop-stream l = l.out ++ flat_map stream_line (drop l.stream-index l.streams) ≡ l.fn.out ++ flat_map stream_line l.streams

@@ -5,4 +5,4 @@ use Rattle.td_report.proofs.replies.push_replies.Given as goal
 
 -- what was written and what is left to write are all
 abbrev pub invariant-loop-line : goal.invariant-loop-line
-invariant-loop-line l = l.out.items ++ flat_map reply_line (drop l.line-index l.lines) ≡ l.fn.out.items ++ flat_map reply_line l.lines
+invariant-loop-line l = l.out ++ flat_map reply_line (drop l.line-index l.lines) ≡ l.fn.out ++ flat_map reply_line l.lines

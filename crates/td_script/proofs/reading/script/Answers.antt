@@ -1,4 +1,4 @@
-use Rattle.std.proofs.Common.{◌≡◌, ◌≢◌, [], ◌+◌, length, sym, ap, subst, arith}
+use Rattle.std.proofs.Common.{◌≡◌, ◌≢◌, [], ◌+◌, ◌≤◌, length, sym, ap, subst, arith}
 use Rattle.std.proofs.lemmas.Grind.{common_steps}
 use Rattle.std.proofs.lemmas.Bool.Decides.{nat_tests}
 use Rattle.td_script.specs.Script.{IsScript}
@@ -16,10 +16,14 @@ returns-in-None-clause-fault c =
     stops c.args.bytes.now c.loop-rest.rest.now c.loop-rest.number c.loop-rest.numbering c.first_line.result.0.now c.first_line.result.1.now c.loop-rest.invariant some c.first_line.ensures (sym c.in-None.ensures)
 
 pub add-requires-clause-phase : goal.add-requires-clause-phase
-add-requires-clause-phase c = omega (arith, c.requires, small_phase c.args.bytes.now c.loop-rest.rest.now c.loop-rest.number c.loop-rest.numbering c.loop-rest.invariant)
+add-requires-clause-phase c =
+    let some : 1 ≤ length c.loop-rest.rest.now = grind (arith, nat_tests) in
+    omega (arith, c.requires, some, small_phase c.args.bytes.now c.loop-rest.rest.now c.loop-rest.number c.loop-rest.numbering c.loop-rest.invariant)
 
 pub add-requires-clause-counts : goal.add-requires-clause-counts
-add-requires-clause-counts c = λ i h. omega (arith, c.requires, small_counts c.args.bytes.now c.loop-rest.rest.now c.loop-rest.number c.loop-rest.numbering c.loop-rest.invariant i h)
+add-requires-clause-counts c =
+    let some : 1 ≤ length c.loop-rest.rest.now = grind (arith, nat_tests) in
+    λ i h. omega (arith, c.requires, some, small_counts c.args.bytes.now c.loop-rest.rest.now c.loop-rest.number c.loop-rest.numbering c.loop-rest.invariant i h)
 
 pub add-requires-clause-session : goal.add-requires-clause-session
 add-requires-clause-session c = has_count c.first_line.result.0.now (shown c.in-Some.kind) (sym c.in-Some.ensures)

@@ -1,0 +1,10 @@
+pub mod Around
+pub mod Keyed
+pub mod AtNode
+pub mod Put
+pub mod Taken
+pub mod Take
+pub mod Levels
+pub mod Froms
+pub mod Pend
+pub mod Built
