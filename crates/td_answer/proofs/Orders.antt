@@ -1,6 +1,6 @@
 -- What is shown of rows in their order, by their cells alone and beside their keys.
-use Rattle.std.proofs.Common.{◌≡◌, ℕ, ℤ, List, [], ◌∷◌, ◌++◌, map, reverse, drop, take, Option, Some, None, refl, sym, ap, ◌∙◌}
-use Rattle.std.proofs.lemmas.List.{map-append, reverse-append, drop-map, take-map}
+use Rattle.std.proofs.Common.{◌≡◌, ℕ, ℤ, List, [], ◌∷◌, ◌++◌, map, reverse, drop, take, Option, Some, None, length, ◌<◌, ◌≤◌, ◌^◌, arith, length-drop, refl, sym, ap, ◌∙◌}
+use Rattle.std.proofs.lemmas.List.{map-append, reverse-append, drop-map, take-map, length-map, length-reverse, length-take}
 use Rattle.td_layer.specs.declared.values.Key.{Key}
 use Rattle.td_layer.specs.declared.values.Cell.{Cell}
 use Rattle.td_model.specs.declared.language.OrderBy.{OrderBy}
@@ -11,7 +11,7 @@ use Rattle.td_model.specs.declared.catalog.Column.{Column}
 use Rattle.td_answer.specs.declared.cells.Line.{Line}
 use Rattle.td_answer.specs.declared.picks.TimeKey.{TimeKey}
 use Rattle.td_answer.specs.Lines.{line_cells, lines_shown}
-use Rattle.td_answer.specs.Picks.{keyed}
+use Rattle.td_answer.specs.Picks.{key_of, keyed}
 
 pub map-map : {X Y Z : Type 0} (f : Y → Z) (g : X → Y) (xs : List X) → map f (map g xs) ≡ map (λ x. f (g x)) xs
 map-map f g [] = refl
@@ -70,3 +70,24 @@ module _ (q : Query) (columns : List Column) (places : List ℕ) (skip count : �
       ∙ ap (map (shown places)) (sym (part-map (λ (l : Line). line_cells columns l) xs) ∙ ap (λ ys. take count (drop skip ys)) (cut_lines es))
       ∙ sym (part-map (shown places) (map cells found))
       ∙ ap (λ ys. take count (drop skip ys)) (map-map (shown places) cells found)
+
+-- ---- how many rows an answer has
+length-ordered : {X : Type 0} (o : OrderBy) (xs : List X) → length (ordered o xs) ≡ length xs
+length-ordered order.Plain xs = refl
+length-ordered (order.Asc name) xs = refl
+length-ordered (order.Desc name) xs = length-reverse xs
+
+few_limited : {X : Type 0} (limit : Option ℤ) (xs : List X) → length (limited limit xs) ≤ length xs
+few_limited None xs = omega arith
+few_limited (Some n) xs = let long = length-take (count_from n) xs in omega arith
+
+pub few_shown : (q : Query) (columns : List Column) (places : List ℕ) (es : List (TimeKey × Line)) (lines : List Line) → lines ≡ ordered q.order (map (λ (e : TimeKey × Line). e.1) es) → length lines < 2 ^ 63 → length (answer_of q places (keyed columns es)) < 2 ^ 63
+few_shown q columns places es lines are small =
+    let found : Found = keyed columns es in
+    let shown_long : length (answer_of q places found) ≡ length (cut q (ordered q.order found)) = length-map (cut q (ordered q.order found)) (λ (e : Key × List Cell). shown places e.1) in
+    let cut_few : length (cut q (ordered q.order found)) ≤ length (drop (count_from q.skip) (ordered q.order found)) = few_limited q.limit (drop (count_from q.skip) (ordered q.order found)) in
+    let dropped = length-drop (count_from q.skip) (ordered q.order found) in
+    let whole : length (ordered q.order found) ≡ length found = length-ordered q.order found in
+    let keys : length found ≡ length es = length-map es (λ (e : TimeKey × Line). (key_of e.0, line_cells columns e.1)) in
+    let all : length lines ≡ length es = ap length are ∙ length-ordered q.order (map (λ (e : TimeKey × Line). e.1) es) ∙ length-map es (λ (e : TimeKey × Line). e.1) in
+    omega arith

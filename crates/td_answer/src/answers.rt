@@ -1,5 +1,5 @@
 //! The answer of a plan.
-ghost use Rattle.std.specs.Prelude.{◌≡◌, drop, take, IfOk};
+ghost use Rattle.std.specs.Prelude.{◌≡◌, ◌<◌, ◌^◌, drop, take, length, IfOk};
 ghost use Rattle.td_model.specs.declared.language.Query.{Query};
 ghost use Rattle.td_model.specs.State.{State};
 ghost use Rattle.td_verdict.specs.Fields.{comparisons_of};
@@ -24,7 +24,8 @@ fn shown_of<M: RowMap>(
     skip: u64,
     count: u64,
 ) -> Result<Seq<Seq<Cell>>, NoMem>
-    ensures { IfOk result (λ all. all ≡ take count (drop skip (answer_of plan.now.query (shown_places (reads_one plan.now) plan.now.schema plan.now.query) (plan_found plan.now (comparisons_of plan.now.schema plan.now.query.conds) (M.rows rows.now))))) }
+    ensures part { IfOk result (λ all. all ≡ take count (drop skip (answer_of plan.now.query (shown_places (reads_one plan.now) plan.now.schema plan.now.query) (plan_found plan.now (comparisons_of plan.now.schema plan.now.query.conds) (M.rows rows.now))))) }
+    ensures small { IfOk result (λ all. length (answer_of plan.now.query (shown_places (reads_one plan.now) plan.now.schema plan.now.query) (plan_found plan.now (comparisons_of plan.now.schema plan.now.query.conds) (M.rows rows.now))) < 2 ^ 63) }
 {
     let comparisons = comparisons(alloc, &plan.schema, plan.query.conds.as_slice())?;
     let places = shown_places(alloc, plan)?;
@@ -37,7 +38,7 @@ fn shown_of<M: RowMap>(
 }
 
 /// A part of the answer of a plan over rows: of its rows, in their order, without the first `skip`, at most `count`. The order is by
-/// timestamp, then by table, or the reverse; then OFFSET, then LIMIT. A negative OFFSET or LIMIT counts as 0. `Err(NoMem)` is want
+/// timestamp, then by table, or the reverse; then OFFSET, then LIMIT. The whole answer has fewer than 2^63 rows. A negative OFFSET or LIMIT counts as 0. `Err(NoMem)` is want
 /// of memory.
 pub fn answer<M: RowMap>(
     alloc: Global,
@@ -46,8 +47,10 @@ pub fn answer<M: RowMap>(
     skip: u64,
     count: u64,
 ) -> Result<Seq<Seq<Cell>>, NoMem>
-    ensures { (q : Query) (s : State) → IsSound s → plan.now ≡ plan_of q s.catalog → M.rows rows.now ≡ s.rows
+    ensures part { (q : Query) (s : State) → IsSound s → plan.now ≡ plan_of q s.catalog → M.rows rows.now ≡ s.rows
         → IfOk result (λ all. all ≡ take count (drop skip (answer q s))) }
+    ensures small { (q : Query) (s : State) → IsSound s → plan.now ≡ plan_of q s.catalog → M.rows rows.now ≡ s.rows
+        → IfOk result (λ all. length (answer q s) < 2 ^ 63) }
 {
     let shown = shown_of(alloc, plan, rows, skip, count)?;
     Ok(shown)

@@ -9,3 +9,4 @@ pub mod Read
 pub mod MadeSub
 pub mod SoundPlans
 pub mod Follows
+pub mod Steps
