@@ -2,3 +2,4 @@ pub mod Answered
 pub mod Subtables
 pub mod Steps
 pub mod Turns
+pub mod Empty
