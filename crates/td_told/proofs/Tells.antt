@@ -17,7 +17,7 @@ use Rattle.td_told.specs.Asked.{Asked, count_of, Counted}
 use Rattle.td_told.specs.Times.{Timed, without_halts}
 use Rattle.td_told.specs.Verdict.{verdict, answer, header}
 use Rattle.td_told.specs.Numbers.{Replied, Number, of_entry, of_state, unnumbered, number, number_of, IsFront, front_after, AreFronts}
-use Rattle.td_told.specs.Journal.{RunsOn, IsHistory, entry_of, version_of, IsAccepted, AreAccepted, listed, with_version, accepted}
+use Rattle.td_told.specs.Journal.{RunsOn, IsHistory, entry_of, version_of, IsAccepted, AreAccepted, listed, with_version, accepted, halts_of, halts_named, with_halt}
 use Rattle.td_told.specs.Replies.{Entered, JudgedAt, IsPrefix, Answers, EachAnswers, reply_line, is_query}
 use Rattle.td_told.specs.Told.{ToldInOrder}
 use Rattle.td_told.specs.Turn.{clock_reads, reply_of, accepted_reply, state_then, line_then, as_list, line_at, entry_at, Judged}
@@ -157,24 +157,26 @@ record InRun (front : ℕ) (before : List Asked) (ps : List Replied) (js : List 
   versions : RunsOn front js
   own : AreAccepted (map reply_line ps) js
   listed_are : listed js ≡ accepted (map reply_line ps)
+  halts : halts_of js ≡ halts_named (map reply_line ps)
   rising : RisesAfter before js
 
 -- an accepted statement's reply is of the next version
 record IsNext (q : Stmt) (version : ℕ) (r : Reply) : Type 0 where
   number_is : number_of q r ≡ of_entry version
   version_is : version_of r ≡ Some version
+  no_halt : (rest : List ℕ) → with_halt r rest ≡ rest
 
 next_reply : (q : Stmt) (w : What) (version rows : ℕ) → IsNext q version (accepted_reply w version rows)
-next_reply q (what.Put puts) version rows = record { number_is = refl; version_is = refl }
-next_reply q (what.MakeTable name columns) version rows = record { number_is = refl; version_is = refl }
-next_reply q (what.MakeStable name schema) version rows = record { number_is = refl; version_is = refl }
-next_reply q (what.MakeSub name stable tags) version rows = record { number_is = refl; version_is = refl }
-next_reply q (what.Cut table lo hi) version rows = record { number_is = refl; version_is = refl }
-next_reply q (what.MakeStream def) version rows = record { number_is = refl; version_is = refl }
-next_reply q (what.DropStream k) version rows = record { number_is = refl; version_is = refl }
-next_reply q (what.Edge edge) version rows = record { number_is = refl; version_is = refl }
-next_reply q (what.Step stream upto moment) version rows = record { number_is = refl; version_is = refl }
-next_reply q what.Halt version rows = record { number_is = refl; version_is = refl }
+next_reply q (what.Put puts) version rows = record { number_is = refl; version_is = refl; no_halt = λ rest. refl }
+next_reply q (what.MakeTable name columns) version rows = record { number_is = refl; version_is = refl; no_halt = λ rest. refl }
+next_reply q (what.MakeStable name schema) version rows = record { number_is = refl; version_is = refl; no_halt = λ rest. refl }
+next_reply q (what.MakeSub name stable tags) version rows = record { number_is = refl; version_is = refl; no_halt = λ rest. refl }
+next_reply q (what.Cut table lo hi) version rows = record { number_is = refl; version_is = refl; no_halt = λ rest. refl }
+next_reply q (what.MakeStream def) version rows = record { number_is = refl; version_is = refl; no_halt = λ rest. refl }
+next_reply q (what.DropStream k) version rows = record { number_is = refl; version_is = refl; no_halt = λ rest. refl }
+next_reply q (what.Edge edge) version rows = record { number_is = refl; version_is = refl; no_halt = λ rest. refl }
+next_reply q (what.Step stream upto moment) version rows = record { number_is = refl; version_is = refl; no_halt = λ rest. refl }
+next_reply q what.Halt version rows = record { number_is = refl; version_is = refl; no_halt = λ rest. refl }
 
 -- what is among replies is among them with one more before them
 contains_later : (rs : List (ℕ × ℕ × Reply)) (x r : (ℕ × ℕ × Reply)) → Contains rs r → Contains (x ∷ rs) r
@@ -198,17 +200,19 @@ one_more w front before p ps m rows js counts reply later =
       order = subst (λ n. AreFronts front (n ∷ map number ps)) (sym number_is) (refl, later.order);
       versions = (refl, later.versions);
       own = (own_first (map reply_line ps) line p.reply version_is, own_later (map reply_line ps) (reply_line p) js later.own);
+      halts = later.halts ∙ sym (is.no_halt (halts_named (map reply_line ps))) ∙ ap (λ x. with_halt x (halts_named (map reply_line ps))) (sym reply);
       listed_are = ap (λ x. (front + 1, a.session, a.ordinal) ∷ x) later.listed_are ∙ ap (λ v. with_version v a.session a.ordinal (accepted (map reply_line ps))) (sym version_is);
       rising = rises_with before a line js counts refl refl later.rising;
     }
 
 -- a turn without an entry
-none_more : (front : ℕ) (before : List Asked) (p : Replied) (ps : List Replied) (js : List JournalLine) (n : Number) → number p ≡ n → IsFront front n → front_after front n ≡ front → version_of p.reply ≡ None → InRun front (before ++ p.asked ∷ []) ps js → InRun front before (p ∷ ps) js
-none_more front before p ps js n number_is is stays version_is later =
+none_more : (front : ℕ) (before : List Asked) (p : Replied) (ps : List Replied) (js : List JournalLine) (n : Number) → number p ≡ n → IsFront front n → front_after front n ≡ front → version_of p.reply ≡ None → ((rest : List ℕ) → with_halt p.reply rest ≡ rest) → InRun front (before ++ p.asked ∷ []) ps js → InRun front before (p ∷ ps) js
+none_more front before p ps js n number_is is stays version_is no_halt later =
     record {
       order = subst (λ x. AreFronts front (x ∷ map number ps)) (sym number_is) (is, subst (λ f. AreFronts f (map number ps)) (sym stays) later.order);
       versions = later.versions;
       own = own_later (map reply_line ps) (reply_line p) js later.own;
+      halts = later.halts ∙ sym (no_halt (halts_named (map reply_line ps)));
       listed_are = later.listed_are ∙ ap (λ v. with_version v p.asked.session p.asked.ordinal (accepted (map reply_line ps))) (sym version_is);
       rising = rises_without before p.asked js later.rising;
     }
@@ -239,7 +243,7 @@ module _ (P : ℕ → ℕ → Type 0) (b : State) where
 
   -- the numbers of the replies run with the front, and the journal lists the accepted ones, each once
   in_order_from : (before : List Asked) (ps : List Replied) (s t : State) (c : ℕ) (js : List JournalLine) → Counted before (asked_of ps) → Plays P c s ps js t → InRun s.version before ps js
-  in_order_from before [] s t c js counted play = rw play.0 (record { order = tt; versions = tt; own = tt; listed_are = refl; rising = λ session. tt })
+  in_order_from before [] s t c js counted play = rw play.0 (record { order = tt; versions = tt; own = tt; listed_are = refl; halts = refl; rising = λ session. tt })
   in_order_from before (p ∷ ps) s t c js counted play =
       let m = play.0 in
       let a = p.asked in
@@ -250,13 +254,13 @@ module _ (P : ℕ → ℕ → Type 0) (b : State) where
         | Some Pass ↦ λ e reply lines rest.
             let later = in_order_from (before ++ a ∷ []) ps s t (c + clock_reads a.stmt) play.5 counted.1 rest in
             let query : is_query a.stmt ≡ true = subst (Fits a.stmt) (sym e) (fits a.stmt s [] m) in
-            subst (InRun s.version before (p ∷ ps)) (sym lines) (none_more s.version before p ps play.5 (of_state s.version) (ap (number_of a.stmt) reply ∙ answer_numbered a.stmt s.version query) refl refl (ap version_of reply) later)
+            subst (InRun s.version before (p ∷ ps)) (sym lines) (none_more s.version before p ps play.5 (of_state s.version) (ap (number_of a.stmt) reply ∙ answer_numbered a.stmt s.version query) refl refl (ap version_of reply) (λ rest. ap (λ x. with_halt x rest) reply) later)
         | Some (Refuse cause) ↦ λ e reply lines rest.
             let later = in_order_from (before ++ a ∷ []) ps s t (c + clock_reads a.stmt) play.5 counted.1 rest in
-            subst (InRun s.version before (p ∷ ps)) (sym lines) (none_more s.version before p ps play.5 (of_state s.version) (ap (number_of a.stmt) reply) refl refl (ap version_of reply) later)
+            subst (InRun s.version before (p ∷ ps)) (sym lines) (none_more s.version before p ps play.5 (of_state s.version) (ap (number_of a.stmt) reply) refl refl (ap version_of reply) (λ rest. ap (λ x. with_halt x rest) reply) later)
         | None ↦ λ e reply lines rest.
             let later = in_order_from (before ++ a ∷ []) ps s t (c + clock_reads a.stmt) play.5 counted.1 rest in
-            subst (InRun s.version before (p ∷ ps)) (sym lines) (none_more s.version before p ps play.5 unnumbered (ap (number_of a.stmt) reply) tt refl (ap version_of reply) later)
+            subst (InRun s.version before (p ∷ ps)) (sym lines) (none_more s.version before p ps play.5 unnumbered (ap (number_of a.stmt) reply) tt refl (ap version_of reply) (λ rest. ap (λ x. with_halt x rest) reply) later)
       ] play.3 play.4 play.6 play.7
 
   -- what must be known of the moments for them to be timed
@@ -283,5 +287,6 @@ module _ (P : ℕ → ℕ → Type 0) (b : State) where
           moments = times all.entries all.no_halts all.moments;
         };
         own_entries = run.listed_are ∙ ap accepted (sym replies);
+        halts = run.halts ∙ ap halts_named (sym replies);
         in_order = run.order;
       }

@@ -190,5 +190,6 @@ told = record {
     moments = record { late = late; among = among };
   };
   own_entries = refl;
+  halts = refl;
   in_order = in_order;
 }

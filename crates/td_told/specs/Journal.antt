@@ -104,3 +104,19 @@ with_version None session ordinal rest = rest
 abbrev pub accepted : List (ℕ × ℕ × Reply) → List (ℕ × ℕ × ℕ)
 accepted [] = []
 accepted (r ∷ rs) = with_version (version_of r.2) r.0 r.1 (accepted rs)
+
+-- ---- halts
+
+-- the versions of the halts of a journal
+abbrev pub halts_of : List JournalLine → List ℕ
+halts_of journal =
+    map (λ (j : JournalLine). j.version) (filter (λ (j : JournalLine). is_halt_mark j.mark) journal)
+
+-- the versions of the halts that replies name
+abbrev pub with_halt : Reply → List ℕ → List ℕ
+with_halt (reply.StoreFaultHalt halt) rest = halt ∷ rest
+with_halt r rest = rest
+
+abbrev pub halts_named : List (ℕ × ℕ × Reply) → List ℕ
+halts_named [] = []
+halts_named (r ∷ rs) = with_halt r.2 (halts_named rs)

@@ -5,7 +5,7 @@ use Rattle.td_model.specs.declared.report.Report.{Report}
 use Rattle.td_model.specs.State.{State}
 use Rattle.td_told.specs.Asked.{Asked}
 use Rattle.td_told.specs.Times.{Timed}
-use Rattle.td_told.specs.Journal.{RunsOn, IsHistory, AreAccepted, lines_of, Rising, listed, accepted}
+use Rattle.td_told.specs.Journal.{RunsOn, IsHistory, AreAccepted, lines_of, Rising, listed, accepted, halts_of, halts_named}
 use Rattle.td_told.specs.Numbers.{Replied, number, numbers_of, NeverFalling, PhasesFollow, AreFronts}
 use Rattle.td_told.specs.Replies.{EachAnswers, AreReplies}
 
@@ -36,9 +36,10 @@ pub record Told (b : State) (readings : Option (List ℕ)) (script printed : Lis
   pub moments : Timed readings b.moment entries
 
 -- It tells them in the order of the lines, in which the replies are printed: the lines of the journal that aren't halts
--- are the accepted replies in their order, and each reply has the number of the front that the lines before it left,
--- which is one more where it was accepted.
+-- are the accepted replies in their order; a halt is one that a reply names; and each reply has the number of the front
+-- that the lines before it left, which is one more where it was accepted.
 pub record ToldInOrder (b : State) (readings : Option (List ℕ)) (script : List Asked) (r : Report) : Type 0 where
   pub told : Told b readings script script r
   pub own_entries : listed r.journal ≡ accepted r.replies
+  pub halts : halts_of r.journal ≡ halts_named r.replies
   pub in_order : AreFronts b.version (map number told.replied)

@@ -17,7 +17,8 @@ pub record Starved {I O P : Type 0} (before after : Devices I O P) (s : Status) 
   pub untouched : after ≡ before
 
 -- Over these arguments, of which the first is the program's own name, the words behind it were run.
-abbrev pub RunsWords : {I O P : Type 0} → List (List ℕ) → State → Option (List ℕ) → Devices I O P → Devices I O P → Status → Type 0
+abbrev pub RunsWords : {I O P : Type 0}
+    → List (List ℕ) → State → Option (List ℕ) → Devices I O P → Devices I O P → Status → Type 0
 RunsWords args b readings before after s =
     Runs (dir_of (drop 1 args)) b readings before after s ⊎ Starved before after s
 

@@ -14,9 +14,15 @@ pub record Devices (I O P : Type 0) : Type 0 where
   pub outside : Outside
 
 -- the devices, with what a source and a sink tell and count
-abbrev pub seen : {I O P : Type 0} → (I → Option (List ℕ)) → (I → ℕ) → (I → ℕ) → (O → Option (List ℕ)) → (O → ℕ) → I → O → P → Devices I O P
+abbrev pub seen : {I O P : Type 0}
+    → (I → Option (List ℕ)) → (I → ℕ) → (I → ℕ) → (O → Option (List ℕ)) → (O → ℕ) → I → O → P → Devices I O P
 seen left given input_faults written output_faults input out place =
-    record { input = input; out = out; place = place; outside = outside left given input_faults written output_faults input out }
+    record {
+      input = input;
+      out = out;
+      place = place;
+      outside = outside left given input_faults written output_faults input out;
+    }
 
 -- A run over the directory that its words name, if they are a command, from the state b on, which ended with a status.
 pub record Runs {I O P : Type 0}

@@ -27,9 +27,16 @@ pub record Outside : Type 0 where
   pub output_faults : ℕ
 
 -- what a source and a sink tell and count
-abbrev pub outside : {I O : Type 0} → (I → Option (List ℕ)) → (I → ℕ) → (I → ℕ) → (O → Option (List ℕ)) → (O → ℕ) → I → O → Outside
+abbrev pub outside : {I O : Type 0}
+    → (I → Option (List ℕ)) → (I → ℕ) → (I → ℕ) → (O → Option (List ℕ)) → (O → ℕ) → I → O → Outside
 outside left given input_faults written output_faults input out =
-    record { left = left input; given = given input; input_faults = input_faults input; written = written out; output_faults = output_faults out }
+    record {
+      left = left input;
+      given = given input;
+      input_faults = input_faults input;
+      written = written out;
+      output_faults = output_faults out;
+    }
 
 -- The bytes are a script, and the text is that of one report, which tells the run of the statements that its lines
 -- ask for in the order of the lines, from the state b on.

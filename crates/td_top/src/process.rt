@@ -69,7 +69,8 @@ fn status_of<R: Threads + Wait + Sync, I: Source, O: Sink, P: Place, C: Clock, G
 
 // Writes a number, where there is one.
 fn write_number<E: Sink>(err: &mut E, number: Option<u64>) -> Result<(), Failed>
-    ensures { Writes (E.written err.old) (E.written err.new) (E.count err.old) (E.count err.new) result (number_text number) }
+    ensures { Writes (E.written err.old) (E.written err.new) (E.count err.old) (E.count err.new) result
+        (number_text number) }
 {
     match number {
         None => write_all(err, b""),
@@ -92,7 +93,8 @@ fn write_text<E: Sink>(err: &mut E, status: Status) -> Result<(), Failed>
 
 // Writes the line of a status, if it has one.
 fn write_line<E: Sink>(err: &mut E, status: Status) -> Result<(), Failed>
-    ensures { Writes (E.written err.old) (E.written err.new) (E.count err.old) (E.count err.new) result (status_line status) }
+    ensures { Writes (E.written err.old) (E.written err.new) (E.count err.old) (E.count err.new) result
+        (status_line status) }
 {
     match status {
         Status::Done => Ok(()),
@@ -103,7 +105,8 @@ fn write_line<E: Sink>(err: &mut E, status: Status) -> Result<(), Failed>
 // Writes the line of a status and gives its exit code.
 fn ended<E: Sink>(err: &mut E, status: Status) -> ExitCode
     ensures exit { exit_status result ≡ exit_number status }
-    ensures line { WroteLine (E.written err.old) (E.written err.new) (E.count err.old) (E.count err.new) (status_line status) }
+    ensures line { WroteLine (E.written err.old) (E.written err.new) (E.count err.old) (E.count err.new)
+        (status_line status) }
 {
     let _ = write_line(err, status);
     ExitCode::from(status.exit_number())

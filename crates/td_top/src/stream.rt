@@ -19,7 +19,8 @@ pub enum ReadFault {
 /// All bytes of a source.
 pub fn read_all<I: Source>(alloc: Global, input: &mut I) -> Result<Vec<u8>, ReadFault>
     ensures whole { IfOk result (λ bytes. ReadWhole (I.left input.old) (I.left input.new) bytes.items) }
-    ensures fault { IfErr result (λ fault. ReadFaultIs (I.left input.old) (I.left input.new) (I.count input.old) (I.count input.new) fault) }
+    ensures fault { IfErr result (λ fault. ReadFaultIs (I.left input.old) (I.left input.new)
+        (I.count input.old) (I.count input.new) fault) }
     ensures few { TookFew (I.left input.old) (I.left input.new) }
     ensures given { GaveFew (I.given input.old) (I.given input.new) }
     ensures calm { OnOk result (I.count input.new ≡ I.count input.old) }

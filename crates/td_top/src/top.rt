@@ -45,9 +45,11 @@ fn report_of<I: Source, C: Clock>(
     input: &mut I,
     clock: &mut C,
 ) -> Result<Seq<u8>, Status>
-    ensures told { IfOk result (λ text. Tells empty_state (C.readings clock.old) (I.left input.old) (I.left input.new) text) }
+    ensures told { IfOk result (λ text. Tells empty_state (C.readings clock.old)
+        (I.left input.old) (I.left input.new) text) }
     ensures calm { OnOk result (I.count input.new ≡ I.count input.old) }
-    ensures ended { IfErr result (λ s. Ended (I.left input.old) (I.left input.new) (I.count input.old) (I.count input.new) s) }
+    ensures ended { IfErr result (λ s. Ended (I.left input.old) (I.left input.new)
+        (I.count input.old) (I.count input.new) s) }
     ensures few { TookFew (I.left input.old) (I.left input.new) }
     ensures given { GaveFew (I.given input.old) (I.given input.new) }
 {
