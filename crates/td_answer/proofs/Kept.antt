@@ -1,5 +1,6 @@
 -- Lists of which the same is kept.
 use Rattle.std.proofs.Common.{◌≡◌, Bool, true, false, cond, List, [], ◌∷◌, map, filter, refl, sym, ap, ◌∙◌}
+use Rattle.std.specs.List.{AllByRecursion}
 
 map_test : {A B : Type 0} (f : A → B) (test : A → Bool) (x : A) (xs : List A) → map f (filter test (x ∷ xs)) ≡ cond (test x) (f x ∷ map f (filter test xs)) (map f (filter test xs))
 map_test f test x xs = elim (test x) as (λ b. map f (cond b (x ∷ filter test xs) (filter test xs)) ≡ cond b (f x ∷ map f (filter test xs)) (map f (filter test xs))) [ true ↦ refl | false ↦ refl ]
@@ -17,11 +18,11 @@ module _ {A B : Type 0} (f g : A → B) (keep : B → Bool) (inner outer : A →
   kept_from x ys zs false true p q s rest = let no : inner x ≡ false = s.outside p in absurd (cc)
   kept_from x ys zs false false p q s rest = rest
 
-  pub kept_same : ((x : A) → IsSame x) → (xs : List A) → filter keep (map f (filter inner xs)) ≡ filter keep (map g (filter outer xs))
-  kept_same each [] = refl
-  kept_same each (x ∷ xs) =
+  pub kept_same : (xs : List A) → AllByRecursion IsSame xs → filter keep (map f (filter inner xs)) ≡ filter keep (map g (filter outer xs))
+  kept_same [] each = refl
+  kept_same (x ∷ xs) each =
       ap (filter keep) (map_test f inner x xs)
-      ∙ kept_from x (map f (filter inner xs)) (map g (filter outer xs)) (outer x) (inner x) refl refl (each x) (kept_same each xs)
+      ∙ kept_from x (map f (filter inner xs)) (map g (filter outer xs)) (outer x) (inner x) refl refl each.0 (kept_same xs each.1)
       ∙ ap (filter keep) (sym (map_test g outer x xs))
 
 -- what is kept of nothing that is kept

@@ -1,7 +1,8 @@
-pub mod Keyed
 pub mod Lists
-pub mod Orders
+pub mod Keyed
 pub mod Kept
+pub mod Places
 pub mod Times
-pub mod OfTags
+pub mod Orders
 pub mod SamePicks
+pub mod Sound

@@ -1,15 +1,17 @@
 -- What is shown of rows in their order, by their cells alone and beside their keys.
-use Rattle.std.proofs.Common.{◌≡◌, ℕ, ℤ, List, [], ◌∷◌, ◌++◌, map, reverse, drop, Option, Some, None, refl, sym, ap, ◌∙◌}
-use Rattle.std.proofs.lemmas.List.{map-append, reverse-append, drop-map, take-map}
+use Rattle.std.proofs.Common.{◌≡◌, ℕ, ℤ, List, [], ◌∷◌, ◌++◌, map, reverse, drop, take, Option, Some, None, length, ◌<◌, ◌≤◌, ◌^◌, arith, length-drop, refl, sym, ap, ◌∙◌}
+use Rattle.std.proofs.lemmas.List.{map-append, reverse-append, drop-map, take-map, length-map, length-reverse, length-take}
 use Rattle.td_layer.specs.declared.values.Key.{Key}
 use Rattle.td_layer.specs.declared.values.Cell.{Cell}
 use Rattle.td_model.specs.declared.language.OrderBy.{OrderBy}
 use Rattle.td_model.specs.declared.language.OrderBy.TheVariants as order
 use Rattle.td_model.specs.declared.language.Query.{Query}
 use Rattle.td_verdict.specs.Answers.{Found, ordered, count_from, limited, cut, shown, answer_of}
+use Rattle.td_model.specs.declared.catalog.Column.{Column}
+use Rattle.td_answer.specs.declared.cells.Line.{Line}
 use Rattle.td_answer.specs.declared.picks.TimeKey.{TimeKey}
-use Rattle.td_answer.specs.Picks.{keyed}
-use Rattle.td_answer.specs.Shown.{shown_all}
+use Rattle.td_answer.specs.Lines.{line_cells, lines_shown}
+use Rattle.td_answer.specs.Picks.{key_of, keyed}
 
 pub map-map : {X Y Z : Type 0} (f : Y → Z) (g : X → Y) (xs : List X) → map f (map g xs) ≡ map (λ x. f (g x)) xs
 map-map f g [] = refl
@@ -36,15 +38,56 @@ module _ {X Y : Type 0} (f : X → Y) where
   cut-map : (q : Query) (xs : List X) → cut q (map f xs) ≡ map f (cut q xs)
   cut-map q xs = ap (limited q.limit) (drop-map f (count_from q.skip) xs) ∙ limited-map q.limit (drop (count_from q.skip) xs)
 
-cells_keyed : (es : List (TimeKey × List Cell)) → map (λ (e : TimeKey × List Cell). e.1) es ≡ map (λ (e : Key × List Cell). e.1) (keyed es)
-cells_keyed [] = refl
-cells_keyed (e ∷ es) = ap (λ xs. e.1 ∷ xs) (cells_keyed es)
+lines_keyed : (columns : List Column) (es : List (TimeKey × Line)) → map (λ (l : Line). line_cells columns l) (map (λ (e : TimeKey × Line). e.1) es) ≡ map (λ (e : Key × List Cell). e.1) (keyed columns es)
+lines_keyed columns [] = refl
+lines_keyed columns (e ∷ es) = ap (λ xs. line_cells columns e.1 ∷ xs) (lines_keyed columns es)
 
-pub shown_keyed : (q : Query) (places : List ℕ) (es : List (TimeKey × List Cell)) → shown_all q places (ordered q.order (map (λ (e : TimeKey × List Cell). e.1) es)) ≡ answer_of q places (keyed es)
-shown_keyed q places es =
-    let cells : Key × List Cell → List Cell = λ e. e.1 in
-    let found : Found = keyed es in
-    ap (λ xs. shown_all q places (ordered q.order xs)) (cells_keyed es)
-    ∙ ap (shown_all q places) (ordered-map cells q.order found)
-    ∙ ap (map (shown places)) (cut-map cells q (ordered q.order found))
-    ∙ map-map (shown places) cells (cut q (ordered q.order found))
+-- what is shown of the part of the lines that OFFSET, LIMIT, skip and take leave
+module _ (q : Query) (columns : List Column) (places : List ℕ) (skip count : ℕ) where
+  read : Line → List Cell
+  read l = line_cells columns l
+
+  abbrev cells : Key × List Cell → List Cell
+  cells e = e.1
+
+  part-map : {X Y : Type 0} (f : X → Y) (xs : List X) → take count (drop skip (map f xs)) ≡ map f (take count (drop skip xs))
+  part-map f xs = ap (take count) (drop-map f skip xs) ∙ take-map f count (drop skip xs)
+
+  cut_lines : (es : List (TimeKey × Line)) → map read (cut q (ordered q.order (map (λ (e : TimeKey × Line). e.1) es))) ≡ map cells (cut q (ordered q.order (keyed columns es)))
+  unfolding read
+  cut_lines es =
+      let lines : List Line = map (λ (e : TimeKey × Line). e.1) es in
+      sym (cut-map (λ (l : Line). line_cells columns l) q (ordered q.order lines))
+      ∙ ap (cut q) (sym (ordered-map (λ (l : Line). line_cells columns l) q.order lines) ∙ ap (ordered q.order) (lines_keyed columns es) ∙ ordered-map cells q.order (keyed columns es))
+      ∙ cut-map cells q (ordered q.order (keyed columns es))
+
+  pub shown_keyed : (es : List (TimeKey × Line)) → lines_shown columns places (take count (drop skip (cut q (ordered q.order (map (λ (e : TimeKey × Line). e.1) es))))) ≡ take count (drop skip (answer_of q places (keyed columns es)))
+  unfolding read
+  shown_keyed es =
+      let xs : List Line = cut q (ordered q.order (map (λ (e : TimeKey × Line). e.1) es)) in
+      let found : Found = cut q (ordered q.order (keyed columns es)) in
+      sym (map-map (shown places) (λ (l : Line). line_cells columns l) (take count (drop skip xs)))
+      ∙ ap (map (shown places)) (sym (part-map (λ (l : Line). line_cells columns l) xs) ∙ ap (λ ys. take count (drop skip ys)) (cut_lines es))
+      ∙ sym (part-map (shown places) (map cells found))
+      ∙ ap (λ ys. take count (drop skip ys)) (map-map (shown places) cells found)
+
+-- ---- how many rows an answer has
+length-ordered : {X : Type 0} (o : OrderBy) (xs : List X) → length (ordered o xs) ≡ length xs
+length-ordered order.Plain xs = refl
+length-ordered (order.Asc name) xs = refl
+length-ordered (order.Desc name) xs = length-reverse xs
+
+few_limited : {X : Type 0} (limit : Option ℤ) (xs : List X) → length (limited limit xs) ≤ length xs
+few_limited None xs = omega arith
+few_limited (Some n) xs = let long = length-take (count_from n) xs in omega arith
+
+pub few_shown : (q : Query) (columns : List Column) (places : List ℕ) (es : List (TimeKey × Line)) (lines : List Line) → lines ≡ ordered q.order (map (λ (e : TimeKey × Line). e.1) es) → length lines < 2 ^ 63 → length (answer_of q places (keyed columns es)) < 2 ^ 63
+few_shown q columns places es lines are small =
+    let found : Found = keyed columns es in
+    let shown_long : length (answer_of q places found) ≡ length (cut q (ordered q.order found)) = length-map (cut q (ordered q.order found)) (λ (e : Key × List Cell). shown places e.1) in
+    let cut_few : length (cut q (ordered q.order found)) ≤ length (drop (count_from q.skip) (ordered q.order found)) = few_limited q.limit (drop (count_from q.skip) (ordered q.order found)) in
+    let dropped = length-drop (count_from q.skip) (ordered q.order found) in
+    let whole : length (ordered q.order found) ≡ length found = length-ordered q.order found in
+    let keys : length found ≡ length es = length-map es (λ (e : TimeKey × Line). (key_of e.0, line_cells columns e.1)) in
+    let all : length lines ≡ length es = ap length are ∙ length-ordered q.order (map (λ (e : TimeKey × Line). e.1) es) ∙ length-map es (λ (e : TimeKey × Line). e.1) in
+    omega arith

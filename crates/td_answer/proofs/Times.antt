@@ -13,9 +13,9 @@ use Rattle.td_model.specs.declared.language.Op.TheVariants as op
 use Rattle.td_model.specs.Tags.{number_of, order_of, passes, cell_matches, tag_matches}
 use Rattle.td_verdict.specs.declared.comparison.Comparison.{Comparison}
 use Rattle.td_verdict.specs.Fields.{row_cells, holds, all_hold}
-use Rattle.td_verdict.specs.Writes.{last_time, time_from}
+use Rattle.td_limits.specs.declared.limits.TheConstants.{LAST_TIMESTAMP}
+use Rattle.td_verdict.specs.Writes.{time_from}
 use Rattle.td_verdict.specs.Plans.{time_above, time_below, low_of, high_of, low, high, lowest, highest}
-use Rattle.td_rows.specs.Puts.{is_to}
 
 -- ---- a timestamp that compares with a number; one beyond the last of all counts as that
 above : (n : ℤ) (ts : ℕ) → passes op.Gt (int_cmp (pos ts) n) ≡ true → time_above n ≤ ts
@@ -30,15 +30,15 @@ from_equal : (n : ℤ) (ts : ℕ) → passes op.Eq (int_cmp (pos ts) n) ≡ true
 from_equal (pos n) ts h = grind (arith, nat_tests)
 from_equal (negsuc n) ts h = omega arith
 
-below : (n : ℤ) (ts : ℕ) → passes op.Lt (int_cmp (pos ts) n) ≡ true → min ts last_time ≤ time_below n
+below : (n : ℤ) (ts : ℕ) → passes op.Lt (int_cmp (pos ts) n) ≡ true → min ts LAST_TIMESTAMP ≤ time_below n
 below (pos n) ts h = grind (arith, nat_tests)
 below (negsuc n) ts h = absurd (cc)
 
-upto : (n : ℤ) (ts : ℕ) → passes op.Le (int_cmp (pos ts) n) ≡ true → min ts last_time ≤ time_from n
+upto : (n : ℤ) (ts : ℕ) → passes op.Le (int_cmp (pos ts) n) ≡ true → min ts LAST_TIMESTAMP ≤ time_from n
 upto (pos n) ts h = grind (arith, nat_tests)
 upto (negsuc n) ts h = absurd (cc)
 
-upto_equal : (n : ℤ) (ts : ℕ) → passes op.Eq (int_cmp (pos ts) n) ≡ true → min ts last_time ≤ time_from n
+upto_equal : (n : ℤ) (ts : ℕ) → passes op.Eq (int_cmp (pos ts) n) ≡ true → min ts LAST_TIMESTAMP ≤ time_from n
 upto_equal (pos n) ts h = grind (arith, nat_tests)
 upto_equal (negsuc n) ts h = absurd (cc)
 
@@ -57,7 +57,7 @@ low_at op.Ne (Some n) ts h = omega arith
 low_at op.IsNull (Some n) ts h = omega arith
 low_at op.NotNull (Some n) ts h = omega arith
 
-high_at : (o : Op) (n : Option ℤ) (ts : ℕ) → Compares o ts n → min ts last_time ≤ option_map_or (high_of o) n last_time
+high_at : (o : Op) (n : Option ℤ) (ts : ℕ) → Compares o ts n → min ts LAST_TIMESTAMP ≤ option_map_or (high_of o) n LAST_TIMESTAMP
 high_at o None ts h = omega arith
 high_at op.Lt (Some n) ts h = below n ts h
 high_at op.Le (Some n) ts h = upto n ts h
@@ -72,7 +72,7 @@ low_not_null : (n : Option ℤ) (ts : ℕ) → option_map_or (low_of op.NotNull)
 low_not_null None ts = omega arith
 low_not_null (Some n) ts = omega arith
 
-high_not_null : (n : Option ℤ) (ts : ℕ) → min ts last_time ≤ option_map_or (high_of op.NotNull) n last_time
+high_not_null : (n : Option ℤ) (ts : ℕ) → min ts LAST_TIMESTAMP ≤ option_map_or (high_of op.NotNull) n LAST_TIMESTAMP
 high_not_null None ts = omega arith
 high_not_null (Some n) ts = omega arith
 
@@ -86,7 +86,7 @@ low_cell op.Ne operand ts h = low_at op.Ne (number_of operand) ts h
 low_cell op.IsNull operand ts h = absurd (cc)
 low_cell op.NotNull operand ts h = low_not_null (number_of operand) ts
 
-high_cell : (o : Op) (operand : Cell) (ts : ℕ) → cell_matches o (cell.Num (pos ts)) operand ≡ true → min ts last_time ≤ option_map_or (high_of o) (number_of operand) last_time
+high_cell : (o : Op) (operand : Cell) (ts : ℕ) → cell_matches o (cell.Num (pos ts)) operand ≡ true → min ts LAST_TIMESTAMP ≤ option_map_or (high_of o) (number_of operand) LAST_TIMESTAMP
 high_cell op.Lt operand ts h = high_at op.Lt (number_of operand) ts h
 high_cell op.Le operand ts h = high_at op.Le (number_of operand) ts h
 high_cell op.Gt operand ts h = high_at op.Gt (number_of operand) ts h
@@ -108,7 +108,7 @@ module _ (c : Column) (cs : List Column) (name : List ℕ) (tags : List Cell) (t
   low_by p true is h = low_cell p.op p.operand ts (at_first p is h)
   low_by p false is h = omega arith
 
-  high_by : (p : Comparison) (b : Bool) → (p.place == 1) ≡ b → holds cells p ≡ true → min ts last_time ≤ cond b (option_map_or (high_of p.op) (number_of p.operand) last_time) last_time
+  high_by : (p : Comparison) (b : Bool) → (p.place == 1) ≡ b → holds cells p ≡ true → min ts LAST_TIMESTAMP ≤ cond b (option_map_or (high_of p.op) (number_of p.operand) LAST_TIMESTAMP) LAST_TIMESTAMP
   high_by p true is h = high_cell p.op p.operand ts (at_first p is h)
   high_by p false is h = omega arith
 
@@ -120,27 +120,17 @@ module _ (c : Column) (cs : List Column) (name : List ℕ) (tags : List Cell) (t
       let rest : lowest ps ≤ ts = from_lowest ps both.1 in
       omega arith
 
-  upto_highest : (ps : List Comparison) → all_hold ps cells ≡ true → min ts last_time ≤ highest ps
+  upto_highest : (ps : List Comparison) → all_hold ps cells ≡ true → min ts LAST_TIMESTAMP ≤ highest ps
   upto_highest [] h = omega arith
   upto_highest (p ∷ ps) h =
       let both = and_parts (holds cells p) (all_hold ps cells) h in
-      let one : min ts last_time ≤ high p = high_by p (p.place == 1) refl both.0 in
-      let rest : min ts last_time ≤ highest ps = upto_highest ps both.1 in
+      let one : min ts LAST_TIMESTAMP ≤ high p = high_by p (p.place == 1) refl both.0 in
+      let rest : min ts LAST_TIMESTAMP ≤ highest ps = upto_highest ps both.1 in
       omega arith
 
-highest_bound : (ps : List Comparison) → highest ps ≤ last_time
-highest_bound [] = omega arith
-highest_bound (p ∷ ps) = let rest = highest_bound ps in omega arith
-
--- up to an end that is open where it is the last of all timestamps
-upto_end : (h ts : ℕ) (b : Bool) → (h == last_time) ≡ b → h ≤ last_time → min ts last_time ≤ h → is_to (cond b None (Some h)) ts ≡ true
-upto_end h ts true is top l = refl
-upto_end h ts false is top l =
-    let ne = eqb-false h last_time is in
-    le-leb ts h (omega arith)
-
-pub inside : (c : Column) (cs : List Column) (name : List ℕ) (tags : List Cell) (ts : ℕ) (values : List Value) (ps : List Comparison) → all_hold ps (row_cells (c ∷ cs) name tags ts values) ≡ true → (nat_le (lowest ps) ts && is_to (cond (highest ps == last_time) None (Some (highest ps))) ts) ≡ true
-inside c cs name tags ts values ps h =
+pub inside : (c : Column) (cs : List Column) (name : List ℕ) (tags : List Cell) (ts : ℕ) (values : List Value) (ps : List Comparison) → ts ≤ LAST_TIMESTAMP → all_hold ps (row_cells (c ∷ cs) name tags ts values) ≡ true → (nat_le (lowest ps) ts && nat_le ts (highest ps)) ≡ true
+inside c cs name tags ts values ps le h =
+    let upto = upto_highest c cs name tags ts values ps h in
     and_from _ _
     (le-leb (lowest ps) ts (from_lowest c cs name tags ts values ps h))
-    (upto_end (highest ps) ts (highest ps == last_time) refl (highest_bound ps) (upto_highest c cs name tags ts values ps h))
+    (le-leb ts (highest ps) (omega arith))

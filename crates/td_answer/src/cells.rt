@@ -1,22 +1,24 @@
-//! The cells of a row, and comparisons of them.
-ghost use Rattle.std.specs.Prelude.{◌≡◌, ◌++◌, IfOk, OnOk};
-ghost use Rattle.td_verdict.specs.Values.{number_cell};
-ghost use Rattle.td_verdict.specs.Fields.{value_cell, value_cells, column_cells, row_cells, holds, all_hold};
+//! The cells of a row that is lent: comparisons of them, and copies of those that are shown.
+ghost use Rattle.std.specs.Prelude.{◌≡◌, ◌<◌, length, slice_get, Some, IfOk};
+ghost use Rattle.std.specs.Option.{unwrap_or};
+ghost use Rattle.td_layer.specs.declared.values.Cell.{Cell};
+ghost use Rattle.td_layer.specs.declared.values.Value.{Value};
+ghost use Rattle.td_verdict.specs.Fields.{value_cell, column_cells, holds, all_hold};
+ghost use Rattle.td_answer.specs.Lines.{line_cells};
 
-use std::alloc::Global;
-use td_cols::Kind;
+use td_cells::{cell_matches, tag_matches, text_matches};
+use td_fields::number_cell;
 use td_layer::{Cell, Copied, Name, NoMem, Seq, Value};
-use td_model::Column;
+use td_model::{Column, Kind};
 use td_verdict::Comparison;
 
-// A number's cell: a truth value at BOOL.
-fn number_cell(kind: Kind, n: i128) -> Cell
-    ensures { result ≡ number_cell kind n }
-{
-    match kind {
-        Kind::Bool => Cell::Truth(n == 1),
-        _ => Cell::Num(n),
-    }
+/// A row that is lent: its table's name and tags, its timestamp, and its values.
+#[derive(Clone, Copy)]
+pub(crate) struct Line<'a> {
+    pub(crate) name: &'a Name,
+    pub(crate) tags: &'a Seq<Cell>,
+    pub(crate) ts: u64,
+    pub(crate) values: &'a Seq<Value>,
 }
 
 fn value_cell(kind: Kind, value: Value) -> Cell
@@ -28,85 +30,83 @@ fn value_cell(kind: Kind, value: Value) -> Cell
     }
 }
 
-// Adds the cells of the columns after the first; a value that is missing is NULL.
-fn add_values(cells: &mut Seq<Cell>, columns: &[Column], values: &[Value]) -> Result<(), NoMem>
-    ensures { OnOk result (cells.new ≡ cells.old ++ value_cells columns.now values.now) }
+// The value at a place; one that is missing is NULL.
+fn value_in(values: &Seq<Value>, at: usize) -> Value
+    ensures { result ≡ unwrap_or (slice_get values.now at) Value.Null }
 {
-    for (i, column) in columns.iter().enumerate() {
-        let value = values.get(i).copied().unwrap_or(Value::Null);
-        if cells.push(value_cell(column.kind, value)).is_err() {
-            return Err(NoMem);
-        }
-    }
-    Ok(())
-}
-
-// Adds the cells of the columns: the timestamp, and the values after it.
-fn add_columns(
-    cells: &mut Seq<Cell>,
-    columns: &[Column],
-    ts: u64,
-    values: &[Value],
-) -> Result<(), NoMem>
-    ensures { OnOk result (cells.new ≡ cells.old ++ column_cells columns.now ts values.now) }
-{
-    match columns {
-        [] => Ok(()),
-        [_, rest @ ..] => {
-            if cells.push(Cell::Num(i128::from(ts))).is_err() {
-                return Err(NoMem);
-            }
-            add_values(cells, rest, values)?;
-            Ok(())
-        }
+    match values.get(at) {
+        Some(value) => *value,
+        None => Value::Null,
     }
 }
 
-// Adds copies of cells.
-fn add_copies(cells: &mut Seq<Cell>, more: &[Cell]) -> Result<(), NoMem>
-    ensures { OnOk result (cells.new ≡ cells.old ++ more.now) }
+// The cell of the column at a place, from 0: the timestamp, or a value.
+fn column_cell(columns: &[Column], at: usize, ts: u64, values: &Seq<Value>) -> Cell
+    requires { at < length columns.now }
+    ensures { slice_get (column_cells columns.now ts values.now) at ≡ Some result }
 {
-    for cell in more {
-        let cell = cell.copy()?;
-        if cells.push(cell).is_err() {
-            return Err(NoMem);
-        }
+    if at == 0 {
+        return Cell::Num(i128::from(ts));
     }
-    Ok(())
+    value_cell(columns[at].kind, value_in(values, at - 1))
 }
 
-// The cells of a row: its table's name, its columns, and its table's tags.
-pub(crate) fn row_cells(
-    alloc: Global,
-    columns: &[Column],
-    name: &Name,
-    tags: &[Cell],
-    ts: u64,
-    values: &[Value],
-) -> Result<Seq<Cell>, NoMem>
-    ensures { IfOk result (λ cells. cells ≡ row_cells columns.now name.now tags.now ts values.now) }
+// Whether a comparison is true of a row's cells.
+fn holds(columns: &[Column], line: &Line<'_>, comparison: &Comparison) -> bool
+    ensures { result ≡ holds (line_cells columns.now line.now) comparison.now }
 {
-    let mut cells = Seq::new(alloc);
-    let name = name.copy()?;
-    if cells.push(Cell::Str(name)).is_err() {
-        return Err(NoMem);
+    let place = comparison.place;
+    if place == 0 {
+        return text_matches(comparison.op, line.name, &comparison.operand);
     }
-    add_columns(&mut cells, columns, ts, values)?;
-    add_copies(&mut cells, tags)?;
-    Ok(cells)
-}
-
-fn holds(comparison: &Comparison, cells: &Seq<Cell>) -> bool
-    ensures { result ≡ holds cells.now comparison.now }
-{
-    td_tagidx::tag_matches(cells, comparison.place, comparison.op, &comparison.operand)
+    if place <= columns.len() {
+        let cell = column_cell(columns, place - 1, line.ts, line.values);
+        return cell_matches(comparison.op, &cell, &comparison.operand);
+    }
+    let tag = place - 1 - columns.len();
+    tag_matches(line.tags.as_slice(), tag, comparison.op, &comparison.operand)
 }
 
 // Whether all comparisons are true of a row's cells.
-pub(crate) fn all_hold(comparisons: &[Comparison], cells: &Seq<Cell>) -> bool
-    ensures { result ≡ all_hold comparisons.now cells.now }
+pub(crate) fn all_hold(columns: &[Column], line: &Line<'_>, comparisons: &[Comparison]) -> bool
+    ensures { result ≡ all_hold comparisons.now (line_cells columns.now line.now) }
 {
     comparisons
         .iter()
-        .all(|comparison| holds(comparison, cells))
+        .all(|comparison| holds(columns, line, comparison))
+}
+
+// A copy of a tag; one that is missing is NULL.
+fn tag_cell(tags: &Seq<Cell>, at: usize) -> Result<Cell, NoMem>
+    ensures { IfOk result (λ cell. cell ≡ unwrap_or (slice_get tags.now at) Cell.Null) }
+{
+    match tags.get(at) {
+        None => Ok(Cell::Null),
+        Some(cell) => {
+            let cell = cell.copy()?;
+            Ok(cell)
+        }
+    }
+}
+
+fn name_cell(name: &Name) -> Result<Cell, NoMem>
+    ensures { IfOk result (λ cell. cell ≡ Cell.Str name.now) }
+{
+    let name = name.copy()?;
+    Ok(Cell::Str(name))
+}
+
+// A copy of the cell at a place of a row; one that is missing is NULL.
+pub(crate) fn cell_at(columns: &[Column], line: &Line<'_>, place: usize) -> Result<Cell, NoMem>
+    ensures { IfOk result (λ cell. cell ≡ unwrap_or (slice_get (line_cells columns.now line.now) place) Cell.Null) }
+{
+    if place == 0 {
+        let cell = name_cell(line.name)?;
+        return Ok(cell);
+    }
+    if place <= columns.len() {
+        return Ok(column_cell(columns, place - 1, line.ts, line.values));
+    }
+    let cell = tag_cell(line.tags, place - 1 - columns.len())?;
+    Ok(cell)
 }

@@ -1,11 +1,12 @@
 //! What is shown of the rows that were picked.
-ghost use Rattle.std.specs.Prelude.{◌≡◌, min, IfOk};
+ghost use Rattle.std.specs.Prelude.{◌≡◌, drop, take, min, IfOk};
 ghost use Rattle.td_verdict.specs.Answers.{shown, is_desc, count_from, limited, cut};
-ghost use Rattle.td_answer.specs.Shown.{cell_in, shown_all};
+ghost use Rattle.td_answer.specs.Lines.{line_cells, lines_shown};
 
+use crate::cells::{Line, cell_at};
 use std::alloc::Global;
-use td_layer::{Cell, Copied, NoMem, Seq};
-use td_model::{OrderBy, Query};
+use td_layer::{Cell, NoMem, Seq};
+use td_model::{Column, OrderBy, Query};
 
 pub(crate) fn is_desc(order: &OrderBy) -> bool
     ensures { result ≡ is_desc order.now }
@@ -27,65 +28,67 @@ fn count_within(n: i128, bound: usize) -> usize
 }
 
 // The first rows, as many as LIMIT says where there is one.
-fn limited(limit: Option<i128>, rows: &[Seq<Cell>]) -> &[Seq<Cell>]
-    ensures { result.now ≡ limited limit rows.now }
+fn limited<'a, 'b>(limit: Option<i128>, lines: &'b [Line<'a>]) -> &'b [Line<'a>]
+    ensures { result.now ≡ limited limit lines.now }
 {
     match limit {
-        None => rows,
-        Some(n) => &rows[..count_within(n, rows.len())],
+        None => lines,
+        Some(n) => &lines[..count_within(n, lines.len())],
     }
 }
 
 // The rows without the first ones, as many as OFFSET says, and of these as many as LIMIT says.
-fn cut<'a>(query: &Query, rows: &'a [Seq<Cell>]) -> &'a [Seq<Cell>]
-    ensures { result.now ≡ cut query.now rows.now }
+fn cut<'a, 'b>(query: &Query, lines: &'b [Line<'a>]) -> &'b [Line<'a>]
+    ensures { result.now ≡ cut query.now lines.now }
 {
-    let skip = count_within(query.skip, rows.len());
-    limited(query.limit, &rows[skip..])
+    let skip = count_within(query.skip, lines.len());
+    limited(query.limit, &lines[skip..])
 }
 
-// A copy of the cell at a place; one that is missing is NULL.
-fn cell_in(cells: &Seq<Cell>, place: usize) -> Result<Cell, NoMem>
-    ensures { IfOk result (λ cell. cell ≡ cell_in cells.now place) }
+// Of the rows that OFFSET and LIMIT leave, without the first `skip`, at most `count`.
+pub(crate) fn part<'a, 'b>(
+    query: &Query,
+    lines: &'b [Line<'a>],
+    skip: u64,
+    count: u64,
+) -> &'b [Line<'a>]
+    ensures { result.now ≡ take count (drop skip (cut query.now lines.now)) }
 {
-    match cells.get(place) {
-        None => Ok(Cell::Null),
-        Some(cell) => {
-            let cell = cell.copy()?;
-            Ok(cell)
-        }
-    }
+    let lines = cut(query, lines);
+    let rest = &lines[(skip as usize).min(lines.len())..];
+    &rest[..(count as usize).min(rest.len())]
 }
 
 // What is shown of a row.
-fn shown(alloc: Global, places: &[usize], cells: &Seq<Cell>) -> Result<Seq<Cell>, NoMem>
-    ensures { IfOk result (λ all. all ≡ shown places.now cells.now) }
+fn shown(
+    alloc: Global,
+    columns: &[Column],
+    places: &[usize],
+    line: &Line<'_>,
+) -> Result<Seq<Cell>, NoMem>
+    ensures { IfOk result (λ all. all ≡ shown places.now (line_cells columns.now line.now)) }
 {
     let mut all = Seq::new(alloc);
     for place in places {
-        let cell = cell_in(cells, *place)?;
-        if all.push(cell).is_err() {
-            return Err(NoMem);
-        }
+        let cell = cell_at(columns, line, *place)?;
+        all.add(cell)?;
     }
     Ok(all)
 }
 
-// What is shown of the rows that OFFSET and LIMIT leave.
+// What is shown of rows.
 pub(crate) fn shown_all(
     alloc: Global,
-    query: &Query,
+    columns: &[Column],
     places: &[usize],
-    rows: &[Seq<Cell>],
+    lines: &[Line<'_>],
 ) -> Result<Seq<Seq<Cell>>, NoMem>
-    ensures { IfOk result (λ all. all ≡ shown_all query.now places.now rows.now) }
+    ensures { IfOk result (λ all. all ≡ lines_shown columns.now places.now lines.now) }
 {
     let mut all = Seq::new(alloc);
-    for cells in cut(query, rows) {
-        let row = shown(alloc, places, cells)?;
-        if all.push(row).is_err() {
-            return Err(NoMem);
-        }
+    for line in lines {
+        let row = shown(alloc, columns, places, line)?;
+        all.add(row)?;
     }
     Ok(all)
 }

@@ -45,7 +45,7 @@ use Rattle.td_bind.specs.Literals.{HasKinds}
 use Rattle.td_bind.proofs.Filters.{all_weaker}
 use Rattle.td_bind.proofs.Numbers.{stable_numbered, table_numbered}
 use Rattle.td_bind.proofs.Read.{first_kind}
-use Rattle.td_bind.proofs.Schemas.{schema_at}
+use Rattle.td_verdict.proofs.Schemas.{schema_at}
 use Rattle.td_bind.proofs.Suited.{tags_are, none_found, not_outside, at_pair, any_kinds, first_placed, group_cells}
 
 -- where no cause of a list applies, none of those in it does
@@ -314,7 +314,7 @@ first_named (c ∷ cs) places i d at here =
 
 -- the schema of a table that is there is well formed
 schema_of_table : (c : Catalog) → IsValid c → (n : ℕ) → IsNumbered n (length c.tables) → IsSchema (table_schema (Some n) c).columns (table_schema (Some n) c).tags
-schema_of_table c valid n numbered = schema_at c valid n numbered
+schema_of_table c valid n numbered = schema_at c valid n numbered.0 numbered.1
 
 -- what is true of a put that its group passed
 record GoodPut (c : Catalog) (edge : ℕ) (p : Put) : Type 0 where

@@ -4,9 +4,9 @@ pub mod Twice
 pub mod Filters
 pub mod ByNumber
 pub mod Planned
-pub mod Schemas
 pub mod Suited
 pub mod Read
 pub mod MadeSub
 pub mod SoundPlans
 pub mod Follows
+pub mod Steps

@@ -31,7 +31,7 @@ use Rattle.td_verdict.specs.Sound.{has_now, IsSoundPlan}
 use Rattle.td_verdict.specs.Valid.{AreTags, IsValid}
 use Rattle.td_bind.specs.Answers.{query_verdict_of}
 use Rattle.td_bind.proofs.ByNumber.{IsKnown, all_known}
-use Rattle.td_bind.proofs.Schemas.{tags_at_table, tags_under}
+use Rattle.td_verdict.proofs.Schemas.{tags_at_table, tags_under}
 
 -- ---- numbers rise
 

@@ -16,6 +16,7 @@
 mod columns;
 mod found;
 mod insert;
+mod laws;
 mod literals;
 mod make;
 mod names;
@@ -29,5 +30,6 @@ mod subtables;
 mod tables;
 mod write;
 
+pub use laws::history_stays_sound;
 pub use query::bind_query;
 pub use write::bind_write;

@@ -13,11 +13,11 @@ latest-keeps : (p : Option ℕ) (key : Key) (s : State) → (latest_raised p key
 latest-keeps None key s = refl
 latest-keeps (Some stable) key s = refl
 
-puts-keep : (ps : List Put) (s : State) → (put_all ps s).catalog ≡ s.catalog
+pub puts-keep : (ps : List Put) (s : State) → (put_all ps s).catalog ≡ s.catalog
 puts-keep [] s = refl
 puts-keep (p ∷ ps) s = puts-keep ps (put_one p s) ∙ latest-keeps (parent_of (table_at p.key.table s.catalog)) p.key (row_put p s)
 
-effect-catalog : (past : List State) (w : What) (s : State) → (effect past w s).catalog ≡ with_what w s.catalog
+pub effect-catalog : (past : List State) (w : What) (s : State) → (effect past w s).catalog ≡ with_what w s.catalog
 effect-catalog past (what.MakeStable name schema) s = refl
 effect-catalog past (what.MakeTable name columns) s = refl
 effect-catalog past (what.MakeSub name stable tags) s = refl

@@ -83,7 +83,7 @@ free_name name c h =
 
 -- ---- tables
 
-slice_left : {X : Type 0} (xs ys : List X) (i : ℕ) → i < length xs → slice_get (xs ++ ys) i ≡ slice_get xs i
+pub slice_left : {X : Type 0} (xs ys : List X) (i : ℕ) → i < length xs → slice_get (xs ++ ys) i ≡ slice_get xs i
 slice_left [] ys i h = absurd (omega arith)
 slice_left (x ∷ xs) ys zero h = refl
 slice_left (x ∷ xs) ys (suc i) h = slice_left xs ys i (omega arith)

@@ -6,14 +6,15 @@ ghost use Rattle.td_model.specs.declared.catalog.Column.{Column};
 ghost use Rattle.td_model.specs.declared.language.Item.{Item};
 ghost use Rattle.td_verdict.specs.Names.{column_named};
 ghost use Rattle.td_verdict.specs.Fields.{fields, place_in, part_column, part_place, operand_of, comparison_of, comparisons_of};
+ghost use Rattle.td_verdict.specs.Plans.{reads_one};
 ghost use Rattle.td_verdict.specs.Answers.{places_from, star_fields, item_place, shown_places};
 
 use crate::literals::{number_at, text_at};
-use crate::names::{column_named, place_of};
+use crate::names::{column_named, place_of, same};
 use std::alloc::Global;
 use td_limits::NAME_BYTES;
 use td_layer::{Cell, Copied, Name, NoMem, Seq};
-use td_model::{Column, Cond, Item, ItemKind, Kind, Lit, PartBy, Query, Schema};
+use td_model::{Column, Cond, Item, ItemKind, Kind, Lit, PartBy, Plan, Query, Schema};
 use td_verdict::Comparison;
 
 /// TBNAME is compared as a text of at most the bytes of a name.
@@ -159,9 +160,9 @@ fn star_count(is_table: bool, schema: &Schema) -> usize
     }
 }
 
-/// The places of the cells that a query over a schema shows of a row, in the order of its select list. `*` shows the columns
-/// of a table, and of a supertable its columns and then its tags.
-pub fn shown_places(
+// The places of the cells that a query over a schema shows of a row. `*` shows the columns of a table, and of a supertable its
+// columns and then its tags.
+fn places_over(
     alloc: Global,
     is_table: bool,
     schema: &Schema,
@@ -177,3 +178,22 @@ pub fn shown_places(
     Ok(places)
 }
 
+/// Whether a plan is of a table, and not of a supertable. Names share one space, so it is where its first table has the name of the
+/// query's source.
+pub fn reads_one(plan: &Plan) -> bool
+    ensures { result ≡ reads_one plan.now }
+{
+    match plan.names.as_slice() {
+        [name, ..] => same(name, &plan.query.source),
+        [] => false,
+    }
+}
+
+/// The places of the cells that the query of a plan shows of a row, in the order of its select list. `*` shows the columns of a
+/// table, and of a supertable its columns and then its tags.
+pub fn shown_places(alloc: Global, plan: &Plan) -> Result<Seq<usize>, NoMem>
+    ensures { IfOk result (λ places. places ≡ shown_places (reads_one plan.now) plan.now.schema plan.now.query) }
+{
+    let places = places_over(alloc, reads_one(plan), &plan.schema, &plan.query)?;
+    Ok(places)
+}

@@ -1,12 +1,16 @@
 //! The header of a query's answer.
 ghost use Rattle.std.specs.Prelude.{◌≡◌, map, IfOk};
+ghost use Rattle.td_model.specs.declared.language.Query.{Query};
+ghost use Rattle.td_model.specs.Catalog.{Catalog};
+ghost use Rattle.td_verdict.specs.Plans.{plan_of};
 ghost use Rattle.td_verdict.specs.Names.{names_of};
-ghost use Rattle.td_verdict.specs.Answers.{star_fields, item_text, item_title, header_over};
+ghost use Rattle.td_verdict.specs.Answers.{star_fields, item_text, item_title, header_over, header};
 
+use crate::fields::reads_one;
 use crate::names::add_names;
 use std::alloc::Global;
 use td_layer::{Copied, Name, NoMem, Seq};
-use td_model::{Item, ItemKind, Query, Schema};
+use td_model::{Item, ItemKind, Plan, Query, Schema};
 
 // The names of what `*` shows of a row.
 fn star_names(alloc: Global, is_table: bool, schema: &Schema) -> Result<Seq<Name>, NoMem>
@@ -65,8 +69,8 @@ fn item_titles(alloc: Global, items: &[Item]) -> Result<Seq<Name>, NoMem>
     Ok(titles)
 }
 
-/// The header of a query's answer over a schema: of each item its alias, or else its name.
-pub fn header(
+// The header of a query's answer over a schema.
+fn header_over(
     alloc: Global,
     is_table: bool,
     schema: &Schema,
@@ -79,5 +83,13 @@ pub fn header(
         return Ok(names);
     }
     let names = item_titles(alloc, query.items.as_slice())?;
+    Ok(names)
+}
+
+/// The header of the answer of a plan: of each item of the select list its alias, or else its name.
+pub fn header(alloc: Global, plan: &Plan) -> Result<Seq<Name>, NoMem>
+    ensures { (q : Query) (c : Catalog) → plan.now ≡ plan_of q c → IfOk result (λ names. names ≡ header q c) }
+{
+    let names = header_over(alloc, reads_one(plan), &plan.schema, &plan.query)?;
     Ok(names)
 }

@@ -1,10 +1,12 @@
 -- What is kept beside a catalog, and what an entry makes of it.
-use Rattle.std.specs.Prelude.{ℕ, ◌+◌, ◌*◌, not, nat_le, [], ◌∷◌, ◌++◌, filter, length, Option, Some, None}
+use Rattle.std.specs.Prelude.{◌≡◌, ℕ, ◌+◌, ◌*◌, not, nat_le, [], ◌∷◌, ◌++◌, filter, length, Option, Some, None}
 use Rattle.td_limits.specs.declared.limits.TheConstants.{DAY_RANGE}
 use Rattle.td_model.specs.declared.history.What.{What}
 use Rattle.td_model.specs.declared.history.What.TheVariants as what
 use Rattle.td_model.specs.Catalog.{Catalog}
 use Rattle.td_model.specs.State.{State, Rows, is_cut}
+use Rattle.td_verdict.specs.Plans.{subtables_of}
+use Rattle.td_verdict.specs.Sound.{IsSound}
 use Rattle.td_tagidx.specs.Indexed.{Subtables, with_subtable}
 use Rattle.td_rows.specs.Puts.{rows_after}
 use Rattle.td_tables.specs.declared.latest.Latest.{Latest}
@@ -35,3 +37,8 @@ kept_after what.Halt version moment c k = record k { halt = Some version }
 -- the state that a version, a moment, a catalog and what is kept beside it are
 abbrev pub state_of : ℕ → ℕ → Catalog → Kept → State
 state_of version moment c k = record { version = version; moment = moment; catalog = c; stable_latest = k.latest.stables; table_latest = k.latest.tables; rows = k.rows; edge = k.edge; halt = k.halt }
+
+-- what is kept beside a catalog has its subtables, and the state is sound
+pub record IsRight (version moment : ℕ) (c : Catalog) (k : Kept) : Type 0 where
+  pub subtables : k.subtables ≡ subtables_of c
+  pub sound : IsSound (state_of version moment c k)

@@ -9,12 +9,10 @@ use std::alloc::Global;
 use std::marker::Model;
 use td_catalog::Catalog;
 use td_layer::{NoMem, Seq};
+use td_limits::DAY_RANGE;
 use td_model::{Entry, What};
 use td_rows::RowMap;
 use td_tagidx::TagIndex;
-
-/// A day range in milliseconds.
-const DAY_RANGE: u64 = 864_000_000;
 
 /// The subtables by their tags, the greatest timestamps that were ever put, the rows, the retention edge, and the version
 /// of the halt, if there is one.

@@ -41,9 +41,7 @@ pub(crate) fn add(latest: &mut Seq<Option<u64>>) -> Result<(), NoMem>
     ensures ok { OnOk result (latest.new ≡ latest.old ++ None ∷ []) }
     ensures err { OnErr result (latest.new ≡ latest.old) }
 {
-    if latest.push(None).is_err() {
-        return Err(NoMem);
-    }
+    latest.add(None)?;
     Ok(())
 }
 

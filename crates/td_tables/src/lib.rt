@@ -13,4 +13,4 @@ mod latest;
 mod tables;
 
 pub use tables::{Tables, Turn};
-pub use td_rows::{ListedRows, OrderedRows, RowMap};
+pub use td_rows::{OrderedRows, RowMap};

@@ -1,9 +1,10 @@
 //! The state that a script is played on.
 ghost use Rattle.std.specs.Prelude.{◌≡◌, ◌<◌, ◌≤◌, ◌+◌, ◌^◌, [], ◌∷◌, IfOk, OnOk, OnErr, IsTrue, Some, None};
 ghost use Rattle.td_model.specs.declared.language.Query.{Query};
-ghost use Rattle.td_model.specs.Built.{is_write};
+ghost use Rattle.td_model.specs.Built.{is_write, is_built, is_row_query};
 ghost use Rattle.td_model.specs.State.{step, empty_state};
 ghost use Rattle.td_catalog.specs.Kept.{CanFollow};
+ghost use Rattle.td_verdict.specs.Sound.{IsFromEdge};
 ghost use Rattle.td_verdict.specs.Writes.{write_verdict};
 ghost use Rattle.td_verdict.specs.Queries.{query_verdict};
 ghost use Rattle.td_verdict.specs.Plans.{plan_of};
@@ -15,8 +16,9 @@ use crate::contents::Contents;
 use std::alloc::Global;
 use std::marker::Model;
 use td_answer::answer;
-use td_bind::{bind_query, bind_write, comparisons, header, shown_places};
+use td_bind::{bind_query, bind_write};
 use td_catalog::Catalog;
+use td_fields::header;
 use td_layer::{Copied, NoMem};
 use td_limits::LAST_TIMESTAMP;
 use td_model::{Cause, Entry, JournalLine, Mark, Plan, Query, Reply, Stmt, What};
@@ -33,16 +35,14 @@ pub struct Tables<M: RowMap> {
 }
 
 impl<M: RowMap> Model for Tables<M> {
-    ghost use Rattle.std.specs.Prelude.{◌≡◌};
     ghost use Rattle.td_model.specs.State.{State};
-    ghost use Rattle.td_verdict.specs.Plans.{subtables_of};
-    ghost use Rattle.td_tables.specs.Contents.{state_of};
+    ghost use Rattle.td_tables.specs.Contents.{state_of, IsRight};
 
     ghost Value = { State };
 
     ghost view = { λ s. state_of s.version s.moment s.catalog.catalog s.contents };
 
-    ghost invariant = { λ s. s.contents.subtables ≡ subtables_of s.catalog.catalog };
+    ghost invariant = { λ s. IsRight s.version s.moment s.catalog.catalog s.contents };
 }
 
 /// What a statement's turn gives: its reply, and the line of its entry, if it has one.
@@ -84,6 +84,7 @@ impl<M: RowMap> Tables<M> {
     fn accept(&mut self, entry: &Entry) -> Result<(), NoMem>
         requires version { self.old.version + 1 < 2 ^ 64 }
         requires follows { CanFollow entry.now.what self.old.catalog }
+        requires edge { IsFromEdge self.old.edge entry.now.what }
         ensures ok { OnOk result (self.new ≡ step (self.old ∷ []) entry.now) }
         ensures err { OnErr result (self.new ≡ self.old) }
     {
@@ -100,18 +101,8 @@ impl<M: RowMap> Tables<M> {
     fn answered(&self, plan: &Plan) -> Result<Reply, NoMem>
         ensures { (q : Query) → plan.now ≡ plan_of q self.now.catalog → IfOk result (λ r. r ≡ Reply.Answer self.now.version (header q self.now.catalog) (answer q self.now)) }
     {
-        let query = &plan.query;
-        let is_table = self.catalog.find_table(&query.source).is_some();
-        let comparisons = comparisons(self.alloc, &plan.schema, query.conds.as_slice())?;
-        let places = shown_places(self.alloc, is_table, &plan.schema, query)?;
-        let header = header(self.alloc, is_table, &plan.schema, query)?;
-        let rows = answer(
-            self.alloc,
-            plan,
-            comparisons.as_slice(),
-            places.as_slice(),
-            self.contents.rows(),
-        )?;
+        let header = header(self.alloc, plan)?;
+        let rows = answer(self.alloc, plan, self.contents.rows(), 0, u64::MAX)?;
         Ok(Reply::Answer {
             prefix: self.version,
             header,
@@ -121,6 +112,7 @@ impl<M: RowMap> Tables<M> {
 
     // The turn of a query.
     fn select(&self, query: &Query) -> Result<Turn, NoMem>
+        requires { IsTrue (is_row_query query.now) }
         ensures reply { IfOk result (λ t. t.reply ≡ reply_of (Stmt.Select query.now) (Some (query_verdict query.now self.now.catalog)) self.now) }
         ensures line { IfOk result (λ t. t.line ≡ None) }
     {
@@ -150,6 +142,7 @@ impl<M: RowMap> Tables<M> {
         requires version { self.old.version + 1 < 2 ^ 64 }
         requires moment { moment ≤ LAST_TIMESTAMP }
         requires write { IsTrue (is_write stmt.now) }
+        requires built { IsTrue (is_built stmt.now) }
         ensures turn { IfOk result (λ t. TurnIs stmt.now (Some (write_verdict stmt.now self.old.catalog self.old.edge moment)) self.old self.new session ordinal moment t.reply t.line) }
         ensures err { OnErr result (self.new ≡ self.old) }
     {

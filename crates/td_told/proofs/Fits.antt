@@ -16,6 +16,7 @@ use Rattle.td_model.specs.Built.{is_built}
 use Rattle.td_model.specs.Catalog.{Catalog, table_named}
 use Rattle.td_model.specs.declared.history.Entry.{Entry}
 use Rattle.td_model.specs.State.{State, effect, step}
+use Rattle.td_limits.specs.declared.limits.TheConstants.{LAST_TIMESTAMP}
 use Rattle.td_verdict.specs.Causes.{first_cause, accepted_or}
 use Rattle.td_verdict.specs.Names.{number_or_none, table_schema}
 use Rattle.td_verdict.specs.Queries.{query_cause, passes_or, query_verdict}
@@ -71,7 +72,7 @@ insert_fits q table columns names groups edge m c is reads =
 delete_fits : (q : Stmt) (table : List ℕ) (columns : List Column) (column : List ℕ) (lo hi : Lit) (m : ℕ) (c : Catalog) → is_other_write q ≡ true → reads_clock q ≡ true → Fits q (writes.delete_in table columns column lo hi m c)
 delete_fits q table columns column lo hi m c is reads =
     let n = number_or_none (table_named table c) in
-    accepted_fits q (writes.delete_cause table columns column lo hi m c) (writes.cut_of n (writes.bound_of m lo) (writes.bound_of m hi)) 0 (cut_suits q n (int_max (writes.bound_of m lo) (pos 0)) (int_min (writes.bound_of m hi) (pos writes.last_time)) is) reads
+    accepted_fits q (writes.delete_cause table columns column lo hi m c) (writes.cut_of n (writes.bound_of m lo) (writes.bound_of m hi)) 0 (cut_suits q n (int_max (writes.bound_of m lo) (pos 0)) (int_min (writes.bound_of m hi) (pos LAST_TIMESTAMP)) is) reads
 
 -- a form that is built or not
 built_fits : (q : Stmt) (built : Bool) (v : Verdict) → Fits q v → Fits q (cond built v (Refuse OptionNotBuilt))
