@@ -1,43 +1,10 @@
-//! Trees as the tables write them.
-use std::alloc::Global;
-use td_layer::{Func, Name, NoMem, Seq};
-use td_lex::decimal;
+//! Trees as the cases write them.
+use td_cases::Out;
+use td_layer::{Func, Name, Seq};
 use td_model::{
     Cause, Column, Cond, Item, ItemKind, Kind, Lit, Op, OrderBy, PartBy, Query, Stmt, StreamDef,
     Trigger, WindowDef,
 };
-
-/// A text that is being written, and whether memory ran out on the way.
-#[derive(Drop)]
-pub(crate) struct Out {
-    text: Seq<u8>,
-    full: bool,
-}
-
-impl Out {
-    pub(crate) fn new(alloc: Global) -> Out {
-        Out {
-            text: Seq::new(alloc),
-            full: false,
-        }
-    }
-
-    pub(crate) fn text(self) -> Result<Seq<u8>, NoMem> {
-        if self.full { Err(NoMem) } else { Ok(self.text) }
-    }
-
-    fn push(&mut self, bytes: &[u8]) {
-        if self.text.extend(bytes).is_err() {
-            self.full = true;
-        }
-    }
-
-    fn number(&mut self, n: i128) {
-        if decimal(n, &mut self.text).is_err() {
-            self.full = true;
-        }
-    }
-}
 
 fn push_cause(out: &mut Out, cause: &Cause) {
     match cause {
