@@ -1,4 +1,4 @@
-//! Cases of whole scripts: each is played over devices in memory, and its report is printed.
+//! [tests] Cases of whole scripts: each is played over devices in memory, and its report is printed.
 //!
 //! A case begins with a line `==== NAME SETTING ..` and goes on to the next such line; what stands before the first is no case.
 //! `settings` has the settings, `cases` the notation of long scripts, `playing` the devices and the call. Below its head a case

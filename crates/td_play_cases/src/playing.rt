@@ -9,11 +9,9 @@ use std::sync::Wait;
 use std::thread::Threads;
 use td_cases::{CaseFault, Out};
 use td_layer::{NoMem, Seq};
+use td_limits::LAST_TIMESTAMP;
 use td_memdev::{FreeGate, MemPlace, MemSink, MemSource, MemStore, Ticks};
 use td_top::{Status, play, vnode};
-
-/// The last millisecond of the year 9999.
-const LATEST: u64 = 253_402_300_799_999;
 
 /// Plays a case, and adds the report and the line of its status.
 pub(crate) fn push_play<R: Threads + Wait + Sync>(
@@ -73,9 +71,9 @@ fn play_on<R: Threads + Wait + Sync>(
 // Whether readings are such as a clock gives.
 fn is_clock(readings: &[u64]) -> bool
     ensures some { IsTrue result → 0 < length readings.now }
-    ensures most { IsTrue result → All (λ t. t ≤ 253402300799999) readings.now }
+    ensures most { IsTrue result → All (λ t. t ≤ LAST_TIMESTAMP) readings.now }
 {
-    !readings.is_empty() && readings.iter().all(|t| *t <= LATEST)
+    !readings.is_empty() && readings.iter().all(|t| *t <= LAST_TIMESTAMP)
 }
 
 fn clock_of(alloc: Global, readings: &[u64]) -> Result<Ticks, CaseFault> {

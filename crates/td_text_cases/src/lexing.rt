@@ -2,7 +2,8 @@
 use std::alloc::Global;
 use td_cases::{CaseFault, Out};
 use td_layer::Seq;
-use td_lex::{LexFault, Spanned, Token, decimal, timestamp, tokens};
+use td_lex::{LexFault, Spanned, Token, decimal, tokens};
+use td_times::timestamp;
 
 /// `tokens TEXT`: each token with its kind, its value and its place, and a bar; or `bad` or `wide` with the place.
 pub(crate) fn tokens_of(alloc: Global, text: &[u8]) -> Result<Seq<u8>, CaseFault> {

@@ -1,4 +1,4 @@
-//! Cases of texts: each line of the input is a case, and its answer stands in the same line of the output.
+//! [tests] Cases of texts: each line of the input is a case, and its answer stands in the same line of the output.
 //!
 //! A case is a kind, a blank and a text, written with the escapes of `td_cases`. A line that is empty or begins with `#` is
 //! printed as it stands. The answers beside which the program's are compared were worked out from the language by hand.

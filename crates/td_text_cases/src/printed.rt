@@ -220,8 +220,8 @@ fn push_order(out: &mut Out, order: &OrderBy) {
     }
 }
 
-// A part that is not given says nothing, and so does an OFFSET of 0.
-fn push_query(out: &mut Out, query: &Query) {
+/// Appends a query. A part that is not given says nothing, and so does an OFFSET of 0.
+pub(crate) fn push_query(out: &mut Out, query: &Query) {
     if query.star {
         out.push(b"*");
     }
@@ -249,7 +249,8 @@ fn push_bit(out: &mut Out, front: &[u8], bit: bool) {
     })
 }
 
-fn push_stream(out: &mut Out, def: &StreamDef) {
+/// Appends a stream.
+pub(crate) fn push_stream(out: &mut Out, def: &StreamDef) {
     out.push(b"stream ");
     out.push(def.name.as_slice());
     match def.trigger {

@@ -2,15 +2,13 @@
 use std::alloc::Global;
 use td_cases::{CaseFault, Out};
 use td_layer::Seq;
+use td_limits::SCRIPT_BYTES;
 use td_script::{Line, ScriptFault, script};
 use td_words::{Command, read_command};
 
-/// The most bytes of a script.
-const MOST: usize = 67_108_864;
-
 /// `script BYTES`: `PHASE.SESSION.ORDINAL TEXT` of each statement line, with a bar; or `bad` with the first line of no form.
 pub(crate) fn lines_of(alloc: Global, bytes: &[u8]) -> Result<Seq<u8>, CaseFault> {
-    if bytes.len() > MOST {
+    if bytes.len() > SCRIPT_BYTES {
         return Err(CaseFault::Unread);
     }
     let mut out = Out::new(alloc);
