@@ -5,7 +5,7 @@ use Rattle.std.specs.BTreeMap.{insert_entry}
 use Rattle.std.proofs.lemmas.List.Elements.{All-weaker}
 use Rattle.std.proofs.lemmas.Map.Views.{All-keys-insert_entry}
 use Rattle.td_tagidx.specs.Indexed.{Subtables}
-use Rattle.td_tagidx.proofs.Ordered.{absent_above}
+use Rattle.td_value_cases.proofs.Absent.{absent_above}
 use Rattle.td_value_cases.proofs.tags.filled.Goals as goal
 
 pub prepare-requires : goal.prepare-requires
