@@ -16,8 +16,8 @@ enum At {
     Count(usize),
 }
 
-/// The bytes of a text in which `\n`, `\r` and `\t` stand for these bytes, `\\` for a backslash, `\xNN` for the byte of two
-/// hexadecimal digits, and `\{N}` for so many of the byte before it that there are N in all.
+/// The bytes of a text in which `\n`, `\r` and `\t` stand for these bytes, `\\` for a backslash, `\xNN` for the byte
+/// of two hexadecimal digits, and `\{N}` for so many of the byte before it that there are N in all.
 pub fn unescaped(alloc: Global, text: &str) -> Result<Vec<u8>, CaseFault> {
     let mut bytes = Vec::new(alloc);
     let mut at = At::Text;
@@ -67,7 +67,9 @@ fn read_letter(bytes: &mut Vec<u8>, letter: u8) -> Result<At, CaseFault> {
 
 fn read_count(bytes: &mut Vec<u8>, count: usize, byte: u8) -> Result<At, CaseFault> {
     if byte != b'}' {
-        let next = count.saturating_mul(10).saturating_add(digit(byte)? as usize);
+        let next = count
+            .saturating_mul(10)
+            .saturating_add(digit(byte)? as usize);
         return Ok(At::Count(next));
     }
     let Some(last) = bytes.last().copied() else {
@@ -89,8 +91,8 @@ fn digit(byte: u8) -> Result<u8, CaseFault> {
     }
 }
 
-/// Adds bytes to a text as one line shows them: a backslash, a newline and the other control bytes as escapes, and each other
-/// byte as it is.
+/// Adds bytes to a text as one line shows them: a backslash, a newline and the other control bytes as escapes, and
+/// each other byte as it is.
 pub fn escaped(out: &mut Out, bytes: &[u8]) {
     for byte in bytes {
         push_byte(out, *byte);

@@ -20,8 +20,9 @@ impl Case {
         })
     }
 
-    /// Adds a line, which may have escapes. A line `@ FROM TO FRONT|TEXT|END` stands for the front, the text once for each number
-    /// from FROM to TO, and the end; in the text `%` is the number, and `~` that which is as far from TO as it is from FROM.
+    /// Adds a line, which may have escapes. A line `@ FROM TO FRONT|TEXT|END` stands for the front, the text once for
+    /// each number from FROM to TO, and the end; in the text `%` is the number, and `~` that which is as far from TO
+    /// as it is from FROM.
     pub(crate) fn add_line(&mut self, alloc: Global, line: &str) -> Result<(), CaseFault> {
         match line.strip_prefix("@ ") {
             None => {
@@ -60,7 +61,12 @@ fn push_repeated(out: &mut Out, alloc: Global, notation: &str) -> Result<(), Cas
     let end = unescaped(alloc, parts.next().unwrap_or(""))?;
     out.push(front.as_slice());
     for n in from..to.saturating_add(1) {
-        push_numbered(out, text.as_slice(), n, from.saturating_add(to).saturating_sub(n));
+        push_numbered(
+            out,
+            text.as_slice(),
+            n,
+            from.saturating_add(to).saturating_sub(n),
+        );
     }
     out.push(end.as_slice());
     Ok(())

@@ -1,10 +1,10 @@
 //! [tests] Cases of whole scripts: each is played over devices in memory, and its report is printed.
 //!
-//! A case begins with a line `==== NAME SETTING ..` and goes on to the next such line; what stands before the first is no case.
-//! `settings` has the settings, `cases` the notation of long scripts, `playing` the devices and the call. Below its head a case
-//! shows the report as it was written, and a line with the exit number, how many bytes were written, and the line on standard
-//! error, if there is one. The reports beside which these are compared were worked out by hand. It stands on `td_top`, whose
-//! calls it asks, on `td_memdev` for the devices, and on `td_cases`.
+//! A case begins with a line `==== NAME SETTING ..` and goes on to the next such line; what stands before the first is
+//! no case. `settings` has the settings, `cases` the notation of long scripts, `playing` the devices and the call.
+//! Below its head a case shows the report as it was written, and a line with the exit number, how many bytes were
+//! written, and the line on standard error, if there is one. The reports beside which these are compared were worked
+//! out by hand. It stands on `td_top`, whose calls it asks, on `td_memdev` for the devices, and on `td_cases`.
 #![tactic(auto)]
 
 mod cases;

@@ -1,9 +1,9 @@
 //! [tests] Cases of texts: each line of the input is a case, and its answer stands in the same line of the output.
 //!
-//! A case is a kind, a blank and a text, written with the escapes of `td_cases`. A line that is empty or begins with `#` is
-//! printed as it stands. The answers beside which the program's are compared were worked out from the language by hand.
-//! `lexing`, `trees`, `scripts` and `reports` have the kinds; `printed` writes a statement's tree. It stands on `td_lex`, `td_parse`,
-//! `td_script`, `td_words` and `td_report`, whose calls it asks, and on `td_cases`.
+//! A case is a kind, a blank and a text, written with the escapes of `td_cases`. A line that is empty or begins with
+//! `#` is printed as it stands. The answers beside which the program's are compared were worked out from the language
+//! by hand. `lexing`, `trees`, `scripts` and `reports` have the kinds; `printed` writes a statement's tree. It stands
+//! on `td_lex`, `td_parse`, `td_script`, `td_words` and `td_report`, whose calls it asks, and on `td_cases`.
 #![tactic(auto)]
 
 mod lexing;

@@ -151,8 +151,8 @@ fn whole(text: &str) -> Result<i128, CaseFault> {
     text.parse::<i128>().map_err(|_| CaseFault::Unread)
 }
 
-/// A line of the journal: its mark's word, then version, session, ordinal and moment; then of a step the stream and its two
-/// numbers.
+/// A line of the journal: its mark's word, then version, session, ordinal and moment; then of a step the stream and
+/// its two numbers.
 pub(crate) fn journal_line_of(alloc: Global, text: &str) -> Result<JournalLine, CaseFault> {
     let mut words = text.split(' ');
     let mark = words.next().unwrap_or("");

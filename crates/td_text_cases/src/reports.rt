@@ -2,12 +2,12 @@
 use crate::parts::{cause_of, cell_of, journal_line_of, name, number, reply_of, small};
 use std::alloc::Global;
 use td_cases::CaseFault;
-use td_layer::{Cell, Name, Seq};
+use td_layer::{Cell, Copied, Name, Seq};
 use td_model::{JournalLine, Reply, Report};
 use td_report::report;
 
-/// `reply WORD|NUMBER|NUMBER` or `reply answer|PREFIX|HEADER|ROWS`: the report of a reply to the second statement of session 1.
-/// The items of the header and the cells of a row are parted by commas, and rows by semicolons.
+/// `reply WORD|NUMBER|NUMBER` or `reply answer|PREFIX|HEADER|ROWS`: the report of a reply to the second statement of
+/// session 1. The items of the header and the cells of a row are parted by commas, and rows by semicolons.
 pub(crate) fn reply_told(alloc: Global, text: &str) -> Result<Seq<u8>, CaseFault> {
     let mut parts = text.split('|');
     let word = parts.next().unwrap_or("");
@@ -56,13 +56,13 @@ fn row_of(alloc: Global, text: &str) -> Result<Seq<Cell>, CaseFault> {
     Ok(Seq::from_vec(alloc, cells))
 }
 
-/// `cause WORD|OF`: the report of a refusal at prefix 9 of the second statement of session 1.
+/// `cause WORD|OF`: the report of a refusal at prefix 9, with a copy of a cause, of the second statement of session 1.
 pub(crate) fn cause_told(alloc: Global, text: &str) -> Result<Seq<u8>, CaseFault> {
     let (word, of) = match text.split_once('|') {
         Some((word, of)) => (word, Some(of)),
         None => (text, None),
     };
-    let cause = cause_of(alloc, word, of)?;
+    let cause = cause_of(alloc, word, of)?.copy()?;
     told(alloc, Reply::Refused { prefix: 9, cause })
 }
 

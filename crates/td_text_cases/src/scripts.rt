@@ -6,7 +6,8 @@ use td_limits::SCRIPT_BYTES;
 use td_script::{Line, ScriptFault, script};
 use td_words::{Command, read_command};
 
-/// `script BYTES`: `PHASE.SESSION.ORDINAL TEXT` of each statement line, with a bar; or `bad` with the first line of no form.
+/// `script BYTES`: `PHASE.SESSION.ORDINAL TEXT` of each statement line, with a bar; or `bad` with the first line of no
+/// form.
 pub(crate) fn lines_of(alloc: Global, bytes: &[u8]) -> Result<Seq<u8>, CaseFault> {
     if bytes.len() > SCRIPT_BYTES {
         return Err(CaseFault::Unread);

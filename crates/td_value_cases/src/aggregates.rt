@@ -80,8 +80,9 @@ fn shown(alloc: Global, tally: &Tally) -> Result<Seq<u8>, CaseFault>
     Ok(out.text()?)
 }
 
-/// `aggregate TS.TABLE.VALUE ..`: how many rows there are, their COUNT, SUM, MIN, MAX, SPREAD, FIRST, LAST and AVG, and of each
-/// place at which the rows can be cut whether the tallies of the two parts, merged either way round, show another.
+/// `aggregate TS.TABLE.VALUE ..`: how many rows there are, their COUNT, SUM, MIN, MAX, SPREAD, FIRST, LAST and AVG,
+/// and of each place at which the rows can be cut whether the tallies of the two parts, merged either way round, show
+/// another.
 pub(crate) fn push_aggregates(out: &mut Out, alloc: Global, text: &str) -> Result<(), CaseFault> {
     let rows = rows_of(alloc, text)?;
     if rows.len() >= 1000 {
@@ -95,7 +96,8 @@ pub(crate) fn push_aggregates(out: &mut Out, alloc: Global, text: &str) -> Resul
     Ok(())
 }
 
-// Says nothing where the tallies of the rows before a place and of those from there on, merged either way round, show this.
+// Says nothing where the tallies of the rows before a place and of those from there on, merged either way round, show
+// this.
 fn push_cut(
     out: &mut Out,
     alloc: Global,

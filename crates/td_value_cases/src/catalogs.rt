@@ -3,8 +3,8 @@ ghost use Rattle.std.specs.Prelude.{◌≡◌, ◌≤◌, length, IsTrue};
 ghost use Rattle.td_catalog.specs.Kept.{IsFree, CanFollow, IsNumbered};
 
 use std::alloc::Global;
-use td_catalog::Catalog;
 use td_cases::{CaseFault, Out};
+use td_catalog::Catalog;
 use td_cols::Kind;
 use td_layer::{Cell, Name, NoMem, Seq};
 use td_model::{Column, Entry, OrderBy, Query, Schema, StreamDef, Trigger, What, WindowDef};
@@ -82,8 +82,9 @@ fn stream(alloc: Global, name: Name) -> StreamDef {
     }
 }
 
-// What a step makes of a name: `stable` a supertable of two columns and a tag, `plain` a table of one column, `sub` a subtable of
-// the first supertable with one tag, `stream` a stream whose target has the empty name; `drop` drops the first stream.
+// What a step makes of a name: `stable` a supertable of two columns and a tag, `plain` a table of one column, `sub` a
+// subtable of the first supertable with one tag, `stream` a stream whose target has the empty name; `drop` drops the
+// first stream.
 fn what_of(alloc: Global, kind: &str, name: Name) -> Result<What, CaseFault> {
     let what = match kind {
         "stable" => What::MakeStable {
@@ -120,14 +121,19 @@ fn make(catalog: &mut Catalog, alloc: Global, kind: &str, name: &str) -> Result<
     Ok(take(catalog, &entry)?)
 }
 
-/// `catalog STEP,STEP ..`, where a step is a kind, a blank and a name: whether each may come next in the catalog that those before
-/// it left, and which numbers of a table, a supertable and a stream its name then finds; then what the catalog holds.
+/// `catalog STEP,STEP ..`, where a step is a kind, a blank and a name: whether each may come next in the catalog that
+/// those before it left, and which numbers of a table, a supertable and a stream its name then finds; then what the
+/// catalog holds.
 pub(crate) fn push_catalog(out: &mut Out, alloc: Global, text: &str) -> Result<(), CaseFault> {
     let mut catalog = Catalog::empty(alloc);
     for step in text.split(',') {
         let (kind, name) = step.split_once(' ').unwrap_or((step, ""));
         let came = make(&mut catalog, alloc, kind, name)?;
-        out.push(if came { b"made".as_slice() } else { b"not".as_slice() });
+        out.push(if came {
+            b"made".as_slice()
+        } else {
+            b"not".as_slice()
+        });
         push_found(out, alloc, &catalog, name)?;
         out.push(b"|");
     }

@@ -86,8 +86,8 @@ fn loaded(kind: Kind, bytes: &[u8]) -> Option<i128> {
     Some(load(kind, bytes))
 }
 
-/// `put LANE N`: the bytes of a number that fits a lane, in hexadecimal digits, or `does not fit`. A lane is `s` or `u` and its
-/// bytes.
+/// `put LANE N`: the bytes of a number that fits a lane, in hexadecimal digits, or `does not fit`. A lane is `s` or
+/// `u` and its bytes.
 pub(crate) fn push_put(out: &mut Out, text: &str) -> Result<(), CaseFault> {
     let (lane, n) = text.split_once(' ').unwrap_or((text, ""));
     let n = whole(n)?;

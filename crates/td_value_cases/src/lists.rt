@@ -26,7 +26,8 @@ pub(crate) fn value_of(text: &str) -> Result<Value, CaseFault> {
     Ok(Value::Num(whole(text)?))
 }
 
-/// A cell of a case: `NULL`, `true`, `false`, a number, a quotient `SUM/COUNT`, or a text behind a quote that nothing closes.
+/// A cell of a case: `NULL`, `true`, `false`, a number, a quotient `SUM/COUNT`, or a text behind a quote that nothing
+/// closes.
 pub(crate) fn cell_of(alloc: Global, text: &str) -> Result<Cell, CaseFault> {
     if let Some(content) = text.strip_prefix('\'') {
         return Ok(Cell::Str(Seq::of_bytes(alloc, content.as_bytes())?));
@@ -64,8 +65,8 @@ pub(crate) fn push_cell(out: &mut Out, cell: &Cell) {
     }
 }
 
-/// `list TEXT`: what a list of the text's bytes is after `s` is pushed and `!` added, a `-` is put before all and a `+` in its
-/// place; what is popped then, how many are left, and what stands at the places 1 and 20.
+/// `list TEXT`: what a list of the text's bytes is after `s` is pushed and `!` added, a `-` is put before all and a
+/// `+` in its place; what is popped then, how many are left, and what stands at the places 1 and 20.
 pub(crate) fn push_list(out: &mut Out, alloc: Global, text: &str) -> Result<(), CaseFault> {
     let mut list = Seq::of_bytes(alloc, text.as_bytes())?;
     if list.push(b's').is_err() {

@@ -67,10 +67,10 @@ fn op_of(word: &str) -> Result<Op, CaseFault> {
     Ok(op)
 }
 
-/// `tags fifths|COMPARISON|COMPARISON ..` over 10,000 subtables of which a fifth each has the tag NULL, `true`, 2, 3 and 4, from
-/// number 5 and number 1 on; or `tags texts|..` over 300 of which a third each has the empty text, `a` and `ab`, from number 3
-/// and number 1 on. A comparison is the place of a tag, a comparison and a cell: it shows how many subtables pass, and the first
-/// two of them.
+/// `tags fifths|COMPARISON|COMPARISON ..` over 10,000 subtables of which a fifth each has the tag NULL, `true`, 2, 3
+/// and 4, from number 5 and number 1 on; or `tags texts|..` over 300 of which a third each has the empty text, `a` and
+/// `ab`, from number 3 and number 1 on. A comparison is the place of a tag, a comparison and a cell: it shows how many
+/// subtables pass, and the first two of them.
 pub(crate) fn push_found(out: &mut Out, alloc: Global, text: &str) -> Result<(), CaseFault> {
     let mut words = text.split('|');
     let index = match words.next() {
@@ -105,8 +105,8 @@ fn push_comparison(
     Ok(())
 }
 
-/// `each`: 10,000 subtables, each with its own number as its tag: each number that `=` does not find alone. That takes no time to
-/// speak of, since no answer looks at each subtable.
+/// `each`: 10,000 subtables, each with its own number as its tag: each number that `=` does not find alone. That takes
+/// no time to speak of, since no answer looks at each subtable.
 pub(crate) fn push_each(out: &mut Out, alloc: Global, text: &str) -> Result<(), CaseFault> {
     let index = filled(alloc, Tags::Own, 10_001)?;
     out.push(b"not found alone:");
