@@ -1,14 +1,12 @@
 //! [tests] Cases of values: each line of the input is a case, and its answer stands in the same line of the output.
 //!
 //! A case is a kind, a blank and a text. A line that is empty or begins with `#` is printed as it stands. The answers
-//! beside which the program's are compared were worked out from the definitions by hand. `lists`, `lanes`,
-//! `aggregates`, `windows`, `catalogs` and `tags` have the kinds; each says what a case of it looks like. It stands on
-//! `td_layer`, `td_cols`, `td_aggr`, `td_window`, `td_catalog` and `td_tagidx`, whose calls it asks, and on
-//! `td_cases`.
+//! beside which the program's are compared were worked out from the definitions by hand. `lists`, `lanes`, `aggregates`,
+//! `windows` and `tags` have the kinds; each says what a case of it looks like. It stands on `td_layer`, `td_cols`,
+//! `td_aggr`, `td_window` and `td_tagidx`, whose calls it asks, and on `td_cases`.
 #![tactic(auto)]
 
 mod aggregates;
-mod catalogs;
 mod lanes;
 mod lists;
 mod tags;
@@ -65,7 +63,6 @@ fn answer(alloc: Global, kind: &str, text: &str) -> Result<Seq<u8>, CaseFault> {
         "interval" => windows::push_intervals(&mut out, alloc, text)?,
         "session" => windows::push_sessions(&mut out, alloc, text)?,
         "state" => windows::push_states(&mut out, alloc, text)?,
-        "catalog" => catalogs::push_catalog(&mut out, alloc, text)?,
         "tags" => tags::push_found(&mut out, alloc, text)?,
         "each" => tags::push_each(&mut out, alloc, text)?,
         _ => return Err(CaseFault::Unread),
