@@ -17,6 +17,7 @@ use std::alloc::Global;
 use std::io::{self, BufRead, BufReader, BufWriter, Write};
 use td_cases::{CaseFault, Out, escaped, unescaped};
 use td_layer::Seq;
+use trees::{Asked, tree_of};
 
 fn main(rt: HostRuntime) -> Result<(), CaseFault> {
     let alloc = rt.alloc();
@@ -54,8 +55,8 @@ fn answer(alloc: Global, kind: &str, text: &str) -> Result<Seq<u8>, CaseFault> {
         "tokens" => lexing::tokens_of(alloc, bytes.as_slice()),
         "time" => lexing::time_of(alloc, bytes.as_slice()),
         "number" => lexing::number_of(alloc, text),
-        "statement" => trees::tree_of(alloc, bytes.as_slice()),
-        "copy" => trees::copy_of(alloc, bytes.as_slice()),
+        "statement" => tree_of(alloc, bytes.as_slice(), Asked::Tree),
+        "copy" => tree_of(alloc, bytes.as_slice(), Asked::Copy),
         "script" => scripts::lines_of(alloc, bytes.as_slice()),
         "words" => scripts::command_of(alloc, bytes),
         "reply" => reports::reply_told(alloc, text),

@@ -6,18 +6,36 @@ use td_layer::{Copied, Seq};
 use td_model::{Query, Stmt, StreamDef};
 use td_parse::statement;
 
-/// `statement TEXT`: the tree of a text, or the cause that it has none.
-pub(crate) fn tree_of(alloc: Global, text: &[u8]) -> Result<Seq<u8>, CaseFault> {
+/// What a case asks of a text's tree.
+#[derive(Clone, Copy)]
+pub(crate) enum Asked {
+    /// `statement TEXT`: the tree, or the cause that there is none.
+    Tree,
+    /// `copy TEXT`: the copy of its query or its stream.
+    Copy,
+}
+
+/// What is printed of the tree of a text.
+pub(crate) fn tree_of(alloc: Global, text: &[u8], what: Asked) -> Result<Seq<u8>, CaseFault> {
     let tree = statement(alloc, text)?;
+    shown(alloc, &tree, what)
+}
+
+fn shown(alloc: Global, tree: &Stmt, what: Asked) -> Result<Seq<u8>, CaseFault> {
+    match what {
+        Asked::Tree => printed(alloc, tree),
+        Asked::Copy => copied(alloc, tree),
+    }
+}
+
+fn printed(alloc: Global, tree: &Stmt) -> Result<Seq<u8>, CaseFault> {
     let mut out = Out::new(alloc);
-    push_stmt(&mut out, &tree);
+    push_stmt(&mut out, tree);
     Ok(out.text()?)
 }
 
-/// `copy TEXT`: the copy of the stream or the query of a text.
-pub(crate) fn copy_of(alloc: Global, text: &[u8]) -> Result<Seq<u8>, CaseFault> {
-    let tree = statement(alloc, text)?;
-    match &tree {
+fn copied(alloc: Global, tree: &Stmt) -> Result<Seq<u8>, CaseFault> {
+    match tree {
         Stmt::Select(query) => query_copied(alloc, query),
         Stmt::MakeStream(def) => stream_copied(alloc, def),
         _ => Err(CaseFault::Unread),
