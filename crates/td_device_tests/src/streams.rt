@@ -46,7 +46,8 @@ fn a_clock_repeats_its_last_reading(rt: HostRuntime) -> Result<(), Fail> {
     for reading in [7, 5, 253402300799999, 253402300799999] {
         assert_eq!(rt; clock.now(), reading);
     }
-    let place = MemPlace::new(MemStore);
+    let store = MemStore::new(alloc, Seq::new(alloc));
+    let place = MemPlace::new(store, Seq::new(alloc));
     assert_eq!(rt; place.faults(), 0);
     Ok(())
 }

@@ -52,7 +52,8 @@ fn play_on<R: Threads + Wait + Sync>(
     sink: &mut MemSink,
 ) -> Result<Status, CaseFault> {
     let clock = clock_of(alloc, settings.clock.as_slice())?;
-    let mut place = MemPlace::new(MemStore);
+    let store = MemStore::new(alloc, Seq::new(alloc));
+    let mut place = MemPlace::new(store, Seq::new(alloc));
     Ok(match &settings.words {
         None => play(alloc, b"d", &mut input, sink, &mut place, clock),
         Some(words) => vnode(
