@@ -11,6 +11,7 @@ ghost use Rattle.td_top.specs.Exit.{exit_number};
 use std::env;
 use std::io::{self, ErrorKind};
 use std::process::ExitCode;
+use td_layer::Seq;
 use td_memdev::{MemPlace, MemStore};
 use td_realdev::{OpenGate, StandardInput, StandardOutput, SystemClock};
 use td_top::{Status, vnode};
@@ -28,7 +29,8 @@ fn main(rt: HostRuntime) -> ExitCode {
     }
     let mut input = StandardInput::new(rt.stdin());
     let mut out = StandardOutput::new(rt.stdout());
-    let mut place = MemPlace::new(MemStore);
+    let alloc = rt.alloc();
+    let mut place = MemPlace::new(MemStore::new(alloc, Seq::new(alloc)), Seq::new(alloc));
     let Ok(own) = rt.clone() else {
         return ended(&rt, Status::NoMemory);
     };

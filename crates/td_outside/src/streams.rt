@@ -1,19 +1,11 @@
-//! The traits of the outside.
+//! Streams of bytes, the clock and the gate.
 ghost use Rattle.std.specs.Prelude.{◌≡◌, ℕ, ◌≤◌, List, Option};
 ghost use Rattle.std.specs.Io.{ReadsAtMost};
 ghost use Rattle.std.specs.Io.KnownBytes.{ReadConsumes, WriteAppends};
 ghost use Rattle.td_outside.specs.Causes.{HasCause, RaisesGiven, TakesSome, Reads};
 
-/// A call on the outside failed, and the count of faults of the object has risen.
-#[derive(Clone, Copy, Debug, PartialEq, Eq)]
-pub struct Failed;
-
-/// Why a call on the outside that takes memory was not done. `NoMemory` leaves the object as it was.
-#[derive(Clone, Copy, Debug, PartialEq, Eq)]
-pub enum IoFault {
-    Failed,
-    NoMemory,
-}
+use crate::faults::Failed;
+use td_limits::LAST_TIMESTAMP;
 
 /// Bytes that come in.
 pub trait Source {
@@ -63,9 +55,9 @@ pub trait Clock: Send + Drop {
     /// The readings that are left, where it tells them. The last repeats.
     ghost readings: { Self → Option (List ℕ) };
 
-    /// The next reading, at most 253402300799999, the end of year 9999.
+    /// The next reading, at most the end of the year 9999.
     fn now(&mut self) -> u64
-        ensures most { result ≤ 253402300799999 }
+        ensures most { result ≤ LAST_TIMESTAMP }
         ensures reading { Reads (readings self.old) (readings self.new) result };
 }
 
@@ -80,33 +72,4 @@ pub enum GatePoint {
 /// Sees each session pass its points, and may hold it there.
 pub trait Gate: Sync {
     fn pass(&self, session: u32, point: GatePoint);
-}
-
-/// A store, of which only the count of faults is used so far.
-pub trait Store: Send {
-    /// How often it failed.
-    ghost count: { Self → ℕ };
-
-    /// How often it failed, up to the number's end.
-    fn faults(&self) -> u64
-        ensures { result ≡ count self.now };
-}
-
-/// A place that has a store, of which only the counts are used so far.
-pub trait Place {
-    type Dir: Store;
-
-    /// How often it failed.
-    ghost count: { Self → ℕ };
-
-    /// How often the stores failed that it took back.
-    ghost taken: { Self → ℕ };
-
-    /// How often it failed, up to the number's end.
-    fn faults(&self) -> u64
-        ensures { result ≡ count self.now };
-
-    /// How often the stores failed that it took back, up to the number's end.
-    fn taken(&self) -> u64
-        ensures { result ≡ taken self.now };
 }
