@@ -1,6 +1,5 @@
-use Rattle.std.proofs.Common.{◌≡◌, Some, ap, sym, ◌∙◌}
+use Rattle.std.proofs.Common.{Some, ap, sym, ◌∙◌}
 use Rattle.td_model.specs.declared.language.Stmt.TheVariants as stmt
-use Rattle.td_model.specs.declared.history.Verdict.TheVariants.{Pass}
 use Rattle.td_verdict.specs.Queries.{query_verdict}
 use Rattle.td_verdict.specs.Plans.{plan_of}
 use Rattle.td_bind.specs.Answers.{query_verdict_of}
