@@ -1,0 +1,11 @@
+//! [answers] When a window of a stream is closed or due, and which ranges must be computed anew after a change.
+#![tactic(auto)]
+
+mod closing;
+mod range;
+mod regions;
+mod widening;
+
+pub use closing::{closed, due};
+pub use range::Range;
+pub use regions::region;
