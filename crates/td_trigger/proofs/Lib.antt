@@ -1,4 +1,9 @@
+pub mod Covering
+pub mod IntervalNumbers
+pub mod IntervalSplice
 pub mod Joining
 pub mod Lists
+pub mod Merging
 pub mod Segments
 pub mod Sorting
+pub mod Worked

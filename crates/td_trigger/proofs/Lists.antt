@@ -1,5 +1,6 @@
 -- What holds of each item of a list, and what a filter leaves of it.
-use Rattle.std.proofs.Common.{◌≡◌, ℕ, zero, suc, ◌+◌, ◌<◌, ◌≤◌, slice_index_or, Bool, true, false, List, [], ◌∷◌, ◌++◌, map, filter, length, refl, ap, arith}
+use Rattle.std.proofs.Common.{◌≡◌, ◌⊎◌, ℕ, zero, suc, ◌+◌, ◌<◌, ◌≤◌, slice_index_or, Bool, true, false, cond, List, [], ◌∷◌, ◌++◌, map, filter, length, refl, sym, ap, ◌∙◌, subst, arith, inl, inr, Contains}
+use Rattle.std.proofs.lemmas.Bool.{false≢true}
 use Rattle.std.specs.List.{AllByRecursion}
 use Rattle.std.specs.List.Sorted.{IsNonDecreasingBy}
 
@@ -35,3 +36,94 @@ module _ {A : Type 0} where
 
   pub rest_in_order : (n : A → ℕ) (x : A) (xs : List A) → IsNonDecreasingBy n (x ∷ xs) → IsNonDecreasingBy n xs
   rest_in_order n x xs h = λ i j d u v. h (suc i) (suc j) d (omega arith) (omega arith)
+
+  -- ---- filters
+  pub filter_of_filter : (p q : A → Bool) → ((x : A) → p x ≡ true → q x ≡ true) → (xs : List A) → filter p (filter q xs) ≡ filter p xs
+  filter_of_filter p q f [] = refl
+  filter_of_filter p q f (x ∷ xs) = go (filter_of_filter p q f xs) (p x) refl (q x) refl
+    where
+      go : filter p (filter q xs) ≡ filter p xs → (t : Bool) → p x ≡ t → (u : Bool) → q x ≡ u → filter p (filter q (x ∷ xs)) ≡ filter p (x ∷ xs)
+      go rest true e true d = rw (d, e, rest)
+      go rest true e false d = absurd (false≢true (sym d ∙ f x e))
+      go rest false e true d = rw (d, e, rest)
+      go rest false e false d = rw (d, e, rest)
+
+  -- what passes a test that only items of two like filters pass
+  pub filter_alike : (p q : A → Bool) → ((x : A) → p x ≡ true → q x ≡ true) → (xs ys : List A) → filter q xs ≡ filter q ys → filter p xs ≡ filter p ys
+  filter_alike p q f xs ys e = sym (filter_of_filter p q f xs) ∙ ap (filter p) e ∙ filter_of_filter p q f ys
+
+  pub filter_swap : (p q : A → Bool) (xs : List A) → filter p (filter q xs) ≡ filter q (filter p xs)
+  filter_swap p q [] = refl
+  filter_swap p q (x ∷ xs) = go (filter_swap p q xs) (p x) refl (q x) refl
+    where
+      go : filter p (filter q xs) ≡ filter q (filter p xs) → (t : Bool) → p x ≡ t → (u : Bool) → q x ≡ u → filter p (filter q (x ∷ xs)) ≡ filter q (filter p (x ∷ xs))
+      go rest true e true d = rw (d, e, d) (ap (λ l. x ∷ l) rest)
+      go rest true e false d = rw (d, e, d) rest
+      go rest false e true d = rw (d, e) rest
+      go rest false e false d = rw (d, e) rest
+
+  pub filter_agrees : (p q : A → Bool) (xs : List A) → AllByRecursion (λ x. p x ≡ q x) xs → filter p xs ≡ filter q xs
+  filter_agrees p q [] h = refl
+  filter_agrees p q (x ∷ xs) h = let e = h.0 in rw (e, filter_agrees p q xs h.1)
+
+  pub each_filter : (P : A → Type 0) (p : A → Bool) (xs : List A) → AllByRecursion P xs → AllByRecursion (λ x. P x × (p x ≡ true)) (filter p xs)
+  each_filter P p [] h = tt
+  each_filter P p (x ∷ xs) h = go (each_filter P p xs h.1) (p x) refl
+    where
+      go : AllByRecursion (λ x. P x × (p x ≡ true)) (filter p xs) → (t : Bool) → p x ≡ t → AllByRecursion (λ x. P x × (p x ≡ true)) (filter p (x ∷ xs))
+      go rest true e = rw e ((h.0, e), rest)
+      go rest false e = rw e rest
+
+  pub each_both : (P Q : A → Type 0) (xs : List A) → AllByRecursion P xs → AllByRecursion Q xs → AllByRecursion (λ x. P x × Q x) xs
+  each_both P Q [] h k = tt
+  each_both P Q (x ∷ xs) h k = ((h.0, k.0), each_both P Q xs h.1 k.1)
+
+  pub each_true : (P : A → Type 0) → ((x : A) → P x) → (xs : List A) → AllByRecursion P xs
+  each_true P f [] = tt
+  each_true P f (x ∷ xs) = (f x, each_true P f xs)
+
+  -- ---- membership
+  abbrev pub In : A → List A → Type 0
+  In x [] = ⊥
+  In x (y ∷ ys) = (y ≡ x) ⊎ In x ys
+
+  pub at_in : (P : A → Type 0) (x : A) (xs : List A) → AllByRecursion P xs → In x xs → P x
+  at_in P x [] h i = absurd i
+  at_in P x (y ∷ ys) h (inl e) = subst P e h.0
+  at_in P x (y ∷ ys) h (inr i) = at_in P x ys h.1 i
+
+  pub in_filter : (p : A → Bool) (x : A) (xs : List A) → p x ≡ true → In x xs → In x (filter p xs)
+  in_filter p x [] t i = i
+  in_filter p x (y ∷ ys) t (inl e) = let u : p y ≡ true = ap p e ∙ t in rw u (inl e)
+  in_filter p x (y ∷ ys) t (inr i) = elim (p y) as (λ u. In x (cond u (y ∷ filter p ys) (filter p ys))) [ true ↦ inr (in_filter p x ys t i) | false ↦ in_filter p x ys t i ]
+
+  pub in_left : (x : A) (xs ys : List A) → In x xs → In x (xs ++ ys)
+  in_left x [] ys i = absurd i
+  in_left x (z ∷ xs) ys (inl e) = inl e
+  in_left x (z ∷ xs) ys (inr i) = inr (in_left x xs ys i)
+
+  pub in_right : (x : A) (xs ys : List A) → In x ys → In x (xs ++ ys)
+  in_right x [] ys i = i
+  in_right x (z ∷ xs) ys i = inr (in_right x xs ys i)
+
+  pub each_in_itself : (xs : List A) → AllByRecursion (λ x. In x xs) xs
+  each_in_itself [] = tt
+  each_in_itself (x ∷ xs) = (inl refl, each_weaker (λ y. In y xs) (λ y. In y (x ∷ xs)) (λ y i. inr i) xs (each_in_itself xs))
+
+  pub in_contains : (x : A) (xs : List A) → In x xs → Contains xs x
+  in_contains x [] i = absurd i
+  in_contains x (y ∷ ys) (inl e) = (0, omega arith, e)
+  in_contains x (y ∷ ys) (inr i) = let c = in_contains x ys i in (suc c.0, omega (arith, c.1), c.2)
+
+  pub contains_in : (x : A) (xs : List A) → Contains xs x → In x xs
+  contains_in x [] (k, h, e) = absurd (omega (arith, h))
+  contains_in x (y ∷ ys) (zero, h, e) = inl e
+  contains_in x (y ∷ ys) (suc k, h, e) = inr (contains_in x ys (k, omega (arith, h), e))
+
+pub each_map : {A B : Type 0} (f : A → B) (P : B → Type 0) (xs : List A) → AllByRecursion (λ x. P (f x)) xs → AllByRecursion P (map f xs)
+each_map f P [] h = tt
+each_map f P (x ∷ xs) h = (h.0, each_map f P xs h.1)
+
+pub each_of_map : {A B : Type 0} (f : A → B) (P : B → Type 0) (xs : List A) → AllByRecursion P (map f xs) → AllByRecursion (λ x. P (f x)) xs
+each_of_map f P [] h = tt
+each_of_map f P (x ∷ xs) h = (h.0, each_of_map f P xs h.1)

@@ -11,9 +11,9 @@ use Rattle.td_trigger.specs.Ranges.{comes_first, put_in_order, in_order}
 use Rattle.td_trigger.proofs.Lists.{each_weaker}
 
 -- ---- the order
-record Le (r s : Range) : Type 0 where
-  lo : r.lo ≤ s.lo
-  hi : r.lo ≡ s.lo → r.hi ≤ s.hi
+pub record Le (r s : Range) : Type 0 where
+  pub lo : r.lo ≤ s.lo
+  pub hi : r.lo ≡ s.lo → r.hi ≤ s.hi
 
 first_le : (r s : Range) → comes_first r s ≡ true → Le r s
 first_le r s h = go (or_cases (ltb r.lo s.lo) (eqb r.lo s.lo && leb r.hi s.hi) h)
@@ -73,11 +73,11 @@ same_place r s h k =
     ap (λ l. record { lo = l; hi = r.hi }) d ∙ ap (λ u. record { lo = s.lo; hi = u }) e
 
 -- ---- lists in order
-InOrder : List Range → Type 0
+unfoldable pub InOrder : List Range → Type 0
 InOrder [] = Unit {0}
 InOrder (r ∷ rs) = AllByRecursion (Le r) rs × InOrder rs
 
-put_each : (P : Range → Type 0) (r : Range) (rs : List Range) → P r → AllByRecursion P rs → AllByRecursion P (put_in_order r rs)
+pub put_each : (P : Range → Type 0) (r : Range) (rs : List Range) → P r → AllByRecursion P rs → AllByRecursion P (put_in_order r rs)
 put_each P r [] p h = (p, tt)
 put_each P r (s ∷ rs) p h = elim (comes_first r s) as (λ t. AllByRecursion P (cond t (r ∷ s ∷ rs) (s ∷ put_in_order r rs))) [ true ↦ (p, (h.0, h.1)) | false ↦ (h.0, put_each P r rs p h.1) ]
 
@@ -92,7 +92,7 @@ put_ordered r (s ∷ rs) h = go (put_ordered r rs h.1) (comes_first r s) refl
         rw e ((l, each_weaker (Le s) (Le r) (λ u k. le_trans r s u l k) rs h.0), (h.0, h.1))
     go rest false e = rw e (put_each (Le s) r rs (other_first r s e) h.0, rest)
 
-all_ordered : (rs : List Range) → InOrder (in_order rs)
+pub all_ordered : (rs : List Range) → InOrder (in_order rs)
 unfolding InOrder
 all_ordered [] = tt
 all_ordered (r ∷ rs) = put_ordered r (in_order rs) (all_ordered rs)

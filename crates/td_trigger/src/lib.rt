@@ -2,10 +2,12 @@
 #![tactic(auto)]
 
 mod closing;
+mod laws;
 mod range;
 mod regions;
 mod widening;
 
 pub use closing::{closed, due};
+pub use laws::interval_windows_splice;
 pub use range::Range;
 pub use regions::region;
