@@ -1,9 +1,12 @@
 pub mod Covering
+pub mod CutRanges
+pub mod CutSplice
 pub mod IntervalNumbers
 pub mod IntervalSplice
 pub mod Joining
 pub mod Lists
 pub mod Merging
 pub mod Segments
+pub mod SessionSplice
 pub mod Sorting
 pub mod Worked

@@ -1,5 +1,5 @@
 -- What holds of each item of a list, and what a filter leaves of it.
-use Rattle.std.proofs.Common.{◌≡◌, ◌⊎◌, ℕ, zero, suc, ◌+◌, ◌<◌, ◌≤◌, slice_index_or, Bool, true, false, cond, List, [], ◌∷◌, ◌++◌, map, filter, length, refl, sym, ap, ◌∙◌, subst, arith, inl, inr, Contains}
+use Rattle.std.proofs.Common.{◌≡◌, ◌⊎◌, ℕ, zero, suc, ◌+◌, ◌<◌, ◌≤◌, slice_index_or, Bool, true, false, ◌&&◌, cond, List, [], ◌∷◌, ◌++◌, map, filter, length, refl, sym, ap, ◌∙◌, subst, arith, inl, inr, Contains}
 use Rattle.std.proofs.lemmas.Bool.{false≢true}
 use Rattle.std.specs.List.{AllByRecursion}
 use Rattle.std.specs.List.Sorted.{IsNonDecreasingBy}
@@ -61,6 +61,14 @@ module _ {A : Type 0} where
       go rest true e false d = rw (d, e, d) rest
       go rest false e true d = rw (d, e) rest
       go rest false e false d = rw (d, e) rest
+
+  pub filter_twice : (p q : A → Bool) (xs : List A) → filter p (filter q xs) ≡ filter (λ x. q x && p x) xs
+  filter_twice p q [] = refl
+  filter_twice p q (x ∷ xs) = go (filter_twice p q xs) (q x) refl
+    where
+      go : filter p (filter q xs) ≡ filter (λ x. q x && p x) xs → (t : Bool) → q x ≡ t → filter p (filter q (x ∷ xs)) ≡ filter (λ x. q x && p x) (x ∷ xs)
+      go rest true e = rw e (elim (p x) as (λ u. cond u (x ∷ filter p (filter q xs)) (filter p (filter q xs)) ≡ cond u (x ∷ filter (λ x. q x && p x) xs) (filter (λ x. q x && p x) xs)) [ true ↦ ap (λ l. x ∷ l) rest | false ↦ rest ])
+      go rest false e = rw e rest
 
   pub filter_agrees : (p q : A → Bool) (xs : List A) → AllByRecursion (λ x. p x ≡ q x) xs → filter p xs ≡ filter q xs
   filter_agrees p q [] h = refl
@@ -127,3 +135,23 @@ each_map f P (x ∷ xs) h = (h.0, each_map f P xs h.1)
 pub each_of_map : {A B : Type 0} (f : A → B) (P : B → Type 0) (xs : List A) → AllByRecursion P (map f xs) → AllByRecursion (λ x. P (f x)) xs
 each_of_map f P [] h = tt
 each_of_map f P (x ∷ xs) h = (h.0, each_of_map f P xs h.1)
+
+module _ {A : Type 0} where
+  -- what holds of what passes a test, and of what doesn't
+  pub each_by_filter : (P : A → Type 0) (p : A → Bool) → ((x : A) → p x ≡ false → P x) → (xs : List A) → AllByRecursion P (filter p xs) → AllByRecursion P xs
+  each_by_filter P p f [] h = tt
+  each_by_filter P p f (x ∷ xs) h = go (λ k. each_by_filter P p f xs k) (p x) refl
+    where
+      go : (AllByRecursion P (filter p xs) → AllByRecursion P xs) → (t : Bool) → p x ≡ t → AllByRecursion P (x ∷ xs)
+      go rest true e = let k = rw e at h in (k.0, rest k.1)
+      go rest false e = let k = rw e at h in (f x e, rest k)
+
+  pub each_passing : (P : A → Type 0) (p : A → Bool) (xs : List A) → AllByRecursion P xs → AllByRecursion P (filter p xs)
+  each_passing P p xs h = each_weaker (λ x. P x × (p x ≡ true)) P (λ x k. k.0) (filter p xs) (each_filter P p xs h)
+
+  pub each_test : (p : A → Bool) (xs : List A) → AllByRecursion (λ x. p x ≡ true) (filter p xs)
+  each_test p xs = each_weaker (λ x. Unit {0} × (p x ≡ true)) (λ x. p x ≡ true) (λ x k. k.1) (filter p xs) (each_filter (λ x. Unit {0}) p xs (each_true (λ x. Unit {0}) (λ x. tt) xs))
+
+  pub two_of_each : (P : A → Type 0) (l : List A) (x y : A) (m : List A) → AllByRecursion P (l ++ x ∷ y ∷ m) → P x × P y
+  two_of_each P [] x y m h = (h.0, h.1.0)
+  two_of_each P (z ∷ l) x y m h = two_of_each P l x y m h.1

@@ -57,6 +57,10 @@ module _ {A : Type 0} where
       let l : w.start ≤ℤ p = low.0 in
       ap (put_by_start w) (put_all_front p ws vs up.1 low.1 high) ∙ put_first w (ws ++ vs) (each_append (λ v. w.start ≤ℤ v.start) ws vs up.0 (each_weaker (λ v. p ≤ℤ v.start) (λ v. w.start ≤ℤ v.start) (λ v h. omega (arith, ints)) vs high))
 
+  pub put_alone : (ws : List (Window A)) → StartsDontFall ws → put_all_by_start ws [] ≡ ws ++ []
+  put_alone [] up = refl
+  put_alone (w ∷ ws) up = ap (put_by_start w) (put_alone ws up.1) ∙ put_first w (ws ++ []) (each_append (λ v. w.start ≤ℤ v.start) ws [] up.0 tt)
+
   pub put_all-append : (ws ks vs : List (Window A)) → put_all_by_start (ws ++ ks) vs ≡ put_all_by_start ws (put_all_by_start ks vs)
   put_all-append [] ks vs = refl
   put_all-append (w ∷ ws) ks vs = ap (put_by_start w) (put_all-append ws ks vs)
