@@ -120,3 +120,32 @@ module _ (P : Range → Type 0) (both : (r s : Range) → P r → P s → P (hul
 
 pub regions_are_ranges : (gap : ℕ) (rs : List Range) → AllByRecursion IsRange rs → AllByRecursion IsRange (joined gap (in_order rs))
 regions_are_ranges = each_region IsRange (λ r s h k. omega arith)
+
+-- ---- what a range and what it is joined with take over from it
+module _ (P : Range → Type 0) (parts : (r s : Range) → P (hull r s) → P r × P s) where
+  back_from_joined_to : (gap : ℕ) (r : Range) (rs : List Range) → AllByRecursion P (joined_to gap r rs) → P r × AllByRecursion P rs
+  back_from_joined_to gap r [] h = (h.0, tt)
+  back_from_joined_to gap r (s ∷ rs) h = go (λ k. back_from_joined_to gap (hull r s) rs k) (λ k. back_from_joined_to gap s rs k) (leb s.lo (r.hi + gap)) refl
+    where
+      go : (AllByRecursion P (joined_to gap (hull r s) rs) → P (hull r s) × AllByRecursion P rs) → (AllByRecursion P (joined_to gap s rs) → P s × AllByRecursion P rs) → (t : Bool) → leb s.lo (r.hi + gap) ≡ t → P r × AllByRecursion P (s ∷ rs)
+      go joins begins true e = let k = joins (rw e at h) in let p = parts r s k.0 in (p.0, (p.1, k.1))
+      go joins begins false e = let k = rw e at h in let q = begins k.1 in (k.0, (q.0, q.1))
+
+  back_from_put : (r : Range) (rs : List Range) → AllByRecursion P (put_in_order r rs) → P r × AllByRecursion P rs
+  back_from_put r [] h = (h.0, tt)
+  back_from_put r (s ∷ rs) h = go (λ k. back_from_put r rs k) (comes_first r s) refl
+    where
+      go : (AllByRecursion P (put_in_order r rs) → P r × AllByRecursion P rs) → (t : Bool) → comes_first r s ≡ t → P r × AllByRecursion P (s ∷ rs)
+      go rest true e = let k = rw e at h in (k.0, k.1)
+      go rest false e = let k = rw e at h in let q = rest k.1 in (q.0, (k.0, q.1))
+
+  back_from_order : (rs : List Range) → AllByRecursion P (in_order rs) → AllByRecursion P rs
+  back_from_order [] h = tt
+  back_from_order (r ∷ rs) h = let k = back_from_put r (in_order rs) h in (k.0, back_from_order rs k.1)
+
+  pub back_from_region : (gap : ℕ) (rs : List Range) → AllByRecursion P (joined gap (in_order rs)) → AllByRecursion P rs
+  back_from_region gap rs h = back_from_order rs (go (in_order rs) h)
+    where
+      go : (ss : List Range) → AllByRecursion P (joined gap ss) → AllByRecursion P ss
+      go [] k = tt
+      go (s ∷ ss) k = back_from_joined_to gap s ss k

@@ -6,7 +6,7 @@ use Rattle.td_window.specs.Windows.{Window, cut, led_by, last_of, window_of_grou
 use Rattle.td_trigger.specs.declared.range.Range.{Range}
 use Rattle.td_trigger.specs.Ranges.{hull, holds, taking_in, in_order, joined, IsRange, AreApart}
 use Rattle.td_trigger.specs.Splices.{is_touched, untouched}
-use Rattle.td_trigger.proofs.Lists.{each_weaker, each_both, each_by_filter, each_passing, two_of_each, filter_alike}
+use Rattle.td_trigger.proofs.Lists.{each_weaker, each_map, each_both, each_by_filter, each_passing, two_of_each, filter_alike, filter_of_filter_on, In, at_in, each_in_itself}
 use Rattle.td_trigger.proofs.Covering.{Within, within_any, within_region}
 use Rattle.td_trigger.proofs.CutSplice.{DontFall, each_group, windows, head_of_cut}
 
@@ -147,3 +147,63 @@ module _ {A : Type 0} (time : A → ℕ) (apart : A → A → Bool) (R : A → A
       let j = rw c.2 at i in
       rw c.2 (rw e (inl (omega arith, j.0)))
   neighbours_in_range (z ∷ l) x y m h e = lift (time x) (time y) z (l ++ x ∷ y ∷ m) h.0 (neighbours_in_range l x y m h.1 e)
+
+  -- rows of a list in order
+  pub filter_ordered : (q : A → Bool) (rows : List A) → Ordered rows → Ordered (filter q rows)
+  filter_ordered q [] h = tt
+  filter_ordered q (x ∷ rows) h = go (filter_ordered q rows h.1) (q x) refl
+    where
+      go : Ordered (filter q rows) → (t : Bool) → q x ≡ t → Ordered (filter q (x ∷ rows))
+      go rest true e = rw e (each_passing (R x) q rows h.0, rest)
+      go rest false e = rw e rest
+
+  -- a row of this timestamp
+  abbrev pub HasRowAt : List A → ℕ → Type 0
+  HasRowAt rows t = (z : A) × In z rows × (time z ≡ t)
+
+  -- at both ends of a window there are rows
+  pub rows_at_ends : (rows : List A) → AllByRecursion (λ (u : Range). HasRowAt rows u.lo × HasRowAt rows u.hi) (ranges rows)
+  rows_at_ends rows =
+      each_map range_of (λ (u : Range). HasRowAt rows u.lo × HasRowAt rows u.hi) (cut apart rows) (each_weaker (λ (g : A × List A). In g.0 rows × In (last_of g.0 g.1) rows) (λ g. HasRowAt rows (time g.0) × HasRowAt rows (time (last_of g.0 g.1))) (λ g p. ((g.0, p.0, refl), (last_of g.0 g.1, p.1, refl))) (cut apart rows) (each_group time apart (λ z. In z rows) rows (each_in_itself rows)))
+
+  -- neighbours of what passes a test are neighbours, where all between them pass it
+  pub neighbours_among : (q : A → Bool) (x y : A) → q x ≡ true → q y ≡ true → (rows : List A) → Ordered rows → AllByRecursion (λ z. time x ≤ time z → time z ≤ time y → q z ≡ true) rows → (l m : List A) → filter q rows ≡ l ++ x ∷ y ∷ m → (k n : List A) × (rows ≡ k ++ x ∷ y ∷ n)
+  neighbours_among q x y qx qy [] up h [] m e = absurd (cc)
+  neighbours_among q x y qx qy [] up h (w ∷ l) m e = absurd (cc)
+  neighbours_among q x y qx qy (z ∷ rows) up h l m e = go l e (λ l' d. neighbours_among q x y qx qy rows up.1 h.1 l' m d) (q z) refl
+    where
+      -- the row after x
+      next : (ss : List A) → filter q ss ≡ y ∷ m → AllByRecursion (λ u. time x ≤ time u) ss → Ordered ss → AllByRecursion (λ u. time x ≤ time u → time u ≤ time y → q u ≡ true) ss → (n : List A) × (ss ≡ y ∷ n)
+      next [] d a o k = absurd (cc)
+      next (s ∷ ss) d a o k = at (q s) refl
+        where
+          at : (t : Bool) → q s ≡ t → (n : List A) × (s ∷ ss ≡ y ∷ n)
+          at true f = let g = rw f at d in let i : s ≡ y = cc in (ss, ap (λ (v : A). v ∷ ss) i)
+          at false f =
+              let g : filter q ss ≡ y ∷ m = rw f at d in
+              let j = subst (AllByRecursion (R s)) g (each_passing (R s) q ss o.0) in
+              absurd (both_ways (q s) f (k.0 a.0 (rises s y j.0)))
+
+      go : (l : List A) → filter q (z ∷ rows) ≡ l ++ x ∷ y ∷ m → ((l' : List A) → filter q rows ≡ l' ++ x ∷ y ∷ m → (k n : List A) × (rows ≡ k ++ x ∷ y ∷ n)) → (t : Bool) → q z ≡ t → (k n : List A) × (z ∷ rows ≡ k ++ x ∷ y ∷ n)
+      go [] e rest true f =
+          let g = rw f at e in
+          let i : z ≡ x = cc in
+          let j : filter q rows ≡ y ∷ m = cc in
+          let r = next rows j (each_weaker (R z) (λ u. time x ≤ time u) (λ u c. subst (λ v. time v ≤ time u) i (rises z u c)) rows up.0) up.1 h.1 in
+          ([], r.0, ap (λ (v : A). v ∷ rows) i ∙ ap (λ (v : List A). x ∷ v) r.1)
+      go (w ∷ l) e rest true f =
+          let g = rw f at e in
+          let j : filter q rows ≡ l ++ x ∷ y ∷ m = cc in
+          let r = rest l j in
+          (z ∷ r.0, r.1, ap (λ (v : List A). z ∷ v) r.2)
+      go l e rest false f = let r = rest l (rw f at e) in (z ∷ r.0, r.1, ap (λ (v : List A). z ∷ v) r.2)
+
+-- rows outside the regions are the same before and after, where touched timestamps of these rows lie in the regions
+pub same_outside_of : {A : Type 0} (time : A → ℕ) (P : ℕ → Type 0) (touched regions : List Range) → ((t : ℕ) → P t → is_touched touched t ≡ true → Within t t regions) → (before after : List A) → AllByRecursion (λ x. P (time x)) before → AllByRecursion (λ x. P (time x)) after → untouched time touched before ≡ untouched time touched after → untouched time regions before ≡ untouched time regions after
+same_outside_of {A} time P touched regions covered before after b a e = sym (alike before b) ∙ ap (filter (λ x. not (is_touched regions (time x)))) e ∙ alike after a
+  where
+    out : (x : A) → P (time x) → not (is_touched regions (time x)) ≡ true → not (is_touched touched (time x)) ≡ true
+    out x i h = not_from_false (is_touched touched (time x)) (false_from_ne_true (is_touched touched (time x)) (λ k. both_ways (is_touched regions (time x)) (not-true (is_touched regions (time x)) h) (within_any (time x) (time x) regions (covered (time x) i k))))
+
+    alike : (rows : List A) → AllByRecursion (λ x. P (time x)) rows → filter (λ x. not (is_touched regions (time x))) (untouched time touched rows) ≡ untouched time regions rows
+    alike rows i = filter_of_filter_on (λ x. P (time x)) (λ x. not (is_touched regions (time x))) (λ x. not (is_touched touched (time x))) out rows i

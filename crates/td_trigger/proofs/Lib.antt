@@ -9,4 +9,6 @@ pub mod Merging
 pub mod Segments
 pub mod SessionSplice
 pub mod Sorting
+pub mod StateRanges
+pub mod StateSplice
 pub mod Worked

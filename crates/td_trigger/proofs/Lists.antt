@@ -1,6 +1,6 @@
 -- What holds of each item of a list, and what a filter leaves of it.
-use Rattle.std.proofs.Common.{◌≡◌, ◌⊎◌, ℕ, zero, suc, ◌+◌, ◌<◌, ◌≤◌, slice_index_or, Bool, true, false, ◌&&◌, cond, List, [], ◌∷◌, ◌++◌, map, filter, length, refl, sym, ap, ◌∙◌, subst, arith, inl, inr, Contains}
-use Rattle.std.proofs.lemmas.Bool.{false≢true}
+use Rattle.std.proofs.Common.{◌≡◌, ◌⊎◌, ℕ, zero, suc, ◌+◌, ◌<◌, ◌≤◌, slice_index_or, Bool, true, false, ◌&&◌, cond, List, [], ◌∷◌, ◌++◌, map, filter, take, drop, length, refl, sym, ap, ◌∙◌, subst, arith, inl, inr, Contains}
+use Rattle.std.proofs.lemmas.Bool.{false≢true, and_right}
 use Rattle.std.specs.List.{AllByRecursion}
 use Rattle.std.specs.List.Sorted.{IsNonDecreasingBy}
 
@@ -155,3 +155,39 @@ module _ {A : Type 0} where
   pub two_of_each : (P : A → Type 0) (l : List A) (x y : A) (m : List A) → AllByRecursion P (l ++ x ∷ y ∷ m) → P x × P y
   two_of_each P [] x y m h = (h.0, h.1.0)
   two_of_each P (z ∷ l) x y m h = two_of_each P l x y m h.1
+
+module _ {A : Type 0} where
+  pub filter_of_filter_on : (P : A → Type 0) (p q : A → Bool) → ((x : A) → P x → p x ≡ true → q x ≡ true) → (xs : List A) → AllByRecursion P xs → filter p (filter q xs) ≡ filter p xs
+  filter_of_filter_on P p q f xs h = filter_twice p q xs ∙ filter_agrees (λ x. q x && p x) p xs (each_weaker P (λ x. (q x && p x) ≡ p x) both xs h)
+    where
+      both : (x : A) → P x → (q x && p x) ≡ p x
+      both x k = go (p x) refl
+        where
+          go : (t : Bool) → p x ≡ t → (q x && p x) ≡ p x
+          go true e = let d = f x k e in rw (e, d) refl
+          go false e = rw e (and_right (q x) false refl)
+
+  pub each_take : (P : A → Type 0) (n : ℕ) (xs : List A) → AllByRecursion P xs → AllByRecursion P (take n xs)
+  each_take P zero xs h = tt
+  each_take P (suc n) [] h = tt
+  each_take P (suc n) (x ∷ xs) h = (h.0, each_take P n xs h.1)
+
+  pub each_drop : (P : A → Type 0) (n : ℕ) (xs : List A) → AllByRecursion P xs → AllByRecursion P (drop n xs)
+  each_drop P zero xs h = h
+  each_drop P (suc n) [] h = tt
+  each_drop P (suc n) (x ∷ xs) h = each_drop P n xs h.1
+
+  pub each_middle : (P : A → Type 0) (l : List A) (x : A) (m : List A) → AllByRecursion P (l ++ x ∷ m) → P x
+  each_middle P [] x m h = h.0
+  each_middle P (y ∷ l) x m h = each_middle P l x m h.1
+
+  pub each_front : (P : A → Type 0) (l m : List A) → AllByRecursion P (l ++ m) → AllByRecursion P l
+  each_front P [] m h = tt
+  each_front P (y ∷ l) m h = (h.0, each_front P l m h.1)
+
+  pub each_back : (P : A → Type 0) (l m : List A) → AllByRecursion P (l ++ m) → AllByRecursion P m
+  each_back P [] m h = h
+  each_back P (y ∷ l) m h = each_back P l m h.1
+
+  pub in_middle : (l : List A) (x : A) (m : List A) → In x (l ++ x ∷ m)
+  in_middle l x m = in_right x l (x ∷ m) (inl refl)

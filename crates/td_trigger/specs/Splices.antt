@@ -78,4 +78,4 @@ SessionsSplice {A} time column tol =
 -- state windows: the same, of rows whose timestamps rise and lie in the time range
 abbrev pub StatesSplice : {A : Type 0} → (A → ℕ) → (A → Value) → List ℕ → Type 0
 StatesSplice {A} time state column =
-    (touched : List Range) (before after : List A) → IsChange time touched before after → IsStrictlyIncreasing (map time before) → IsStrictlyIncreasing (map time after) → All (λ row. time row ≤ LAST_TIMESTAMP) after → state_windows time state after ≡ spliced (State column) (regions_over (State column) touched (state_windows time state before)) (state_windows time state before) (λ r. state_windows time state (rows_in time r after))
+    (touched : List Range) (before after : List A) → IsChange time touched before after → IsStrictlyIncreasing (map time before) → IsStrictlyIncreasing (map time after) → All (λ row. time row ≤ LAST_TIMESTAMP) before → All (λ row. time row ≤ LAST_TIMESTAMP) after → state_windows time state after ≡ spliced (State column) (regions_over (State column) touched (state_windows time state before)) (state_windows time state before) (λ r. state_windows time state (rows_in time r after))

@@ -8,6 +8,6 @@ mod regions;
 mod widening;
 
 pub use closing::{closed, due};
-pub use laws::interval_windows_splice;
+pub use laws::{interval_windows_splice, sessions_splice, state_windows_splice};
 pub use range::Range;
 pub use regions::region;
