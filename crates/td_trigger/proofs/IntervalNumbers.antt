@@ -1,11 +1,14 @@
 -- Which windows reach into a touched range: those that lie in the range that it is widened to.
 use Rattle.std.proofs.Common.{◌≡◌, ◌⊎◌, ℕ, zero, suc, ◌+◌, ◌-◌, ◌*◌, ◌/◌, ◌%◌, ◌<◌, ◌≤◌, ℤ, pos, negsuc, ◌+ℤ◌, ◌-ℤ◌, ◌*ℤ◌, ◌<ℤ◌, ◌≤ℤ◌, refl, sym, ap, ◌∙◌, arith, inl, inr}
-use Rattle.std.proofs.lemmas.Int.{ints}
+use Rattle.std.proofs.lemmas.Int.{ints, by_lt_z}
 use Rattle.std.proofs.lemmas.Bool.{cases_lt}
 use Rattle.std.proofs.Math.Nat.{mul-le-mul_right, add-mul}
 use Rattle.td_window.specs.Windows.{IsStart}
 use Rattle.td_trigger.specs.declared.range.Range.{Range}
-use Rattle.td_trigger.specs.Regions.{from_0, above_last, widened_interval}
+use Rattle.td_trigger.specs.Regions.{from_0, above_last, widened_interval, BeginsAtFirstWindow, EndsWithLastWindow}
+
+cases_lt_0 : (k : ℤ) → (pos 0 <ℤ k) ⊎ (k ≤ℤ pos 0)
+cases_lt_0 k = by_lt_z (pos 0) k (λ h. inl h) (λ h. inr h)
 
 products : (a b c s : ℕ) → a + b ≡ c → a * s + b * s ≡ c * s
 products a b c s e = sym (add-mul a b s) ∙ ap (λ k. k * s) e
@@ -83,3 +86,87 @@ module _ (len offset slide : ℕ) where
           let x : e ≤ r.hi + len = omega (arith, ints, at) in
           let y = last_end s r.hi e q d x in
           rw at (omega arith)
+
+  -- ---- which windows a widened range begins and ends with
+  start_is : 0 < slide → (e q : ℕ) → e ≡ phase + q * slide → IsStart offset slide (pos e -ℤ pos len)
+  start_is s e q d = go (cases_lt q turns)
+    where
+      go : (q < turns) ⊎ (turns ≤ q) → IsStart offset slide (pos e -ℤ pos len)
+      go (inl h) =
+          let m : (turns - q) * slide + q * slide ≡ turns * slide = products (turns - q) q turns slide (omega arith) in
+          let k : suc (turns - q - 1) ≡ turns - q = omega arith in
+          (negsuc (turns - q - 1), rw k (omega (arith, ints, m)))
+      go (inr h) =
+          let m : (q - turns) * slide + turns * slide ≡ q * slide = products (q - turns) turns q slide (omega arith) in
+          (pos (q - turns), omega (arith, ints, m))
+
+  from_0_less : (a b : ℕ) → a - b ≡ from_0 (pos a -ℤ pos b)
+  from_0_less a b = go (cases_lt a b)
+    where
+      go : (a < b) ⊎ (b ≤ a) → a - b ≡ from_0 (pos a -ℤ pos b)
+      go (inl h) = let e : pos a -ℤ pos b ≡ negsuc (b - a - 1) = omega (arith, ints) in let n : a - b ≡ 0 = omega arith in n ∙ sym (ap from_0 e)
+      go (inr h) = let e : pos a -ℤ pos b ≡ pos (a - b) = omega (arith, ints) in sym (ap from_0 e)
+
+  pub begins_at_first : (r : Range) → 0 < slide → BeginsAtFirstWindow len offset slide r
+  begins_at_first r s = (
+    pos first -ℤ pos len,
+    start_is s first quotient on_grid,
+    omega (arith, ints),
+    λ j starts above. least j (end_is s j r.lo starts above) above,
+    from_0_less first len,
+  )
+    where
+      first : ℕ
+      first = r.lo + slide - above_last (offset + len) slide r.lo
+
+      quotient : ℕ
+      quotient = (r.lo + slide - phase) / slide
+
+      on_grid : first ≡ phase + quotient * slide
+      on_grid = omega arith
+
+      least : (j : ℤ) → (e : ℕ) × (j +ℤ pos len ≡ pos e) × ((q : ℕ) × (e ≡ phase + q * slide)) → pos r.lo <ℤ (j +ℤ pos len) → (pos first -ℤ pos len) ≤ℤ j
+      least j (e, at, (q, d)) above = let x : r.lo < e = omega (arith, ints, at) in let y = least_end s r.lo e q d x in omega (arith, ints, at)
+
+  pub ends_with_last : (r : Range) → 0 < slide → slide ≤ len → EndsWithLastWindow len offset slide r
+  ends_with_last r s n = (
+    last,
+    starts (cases_lt fewer quotient),
+    omega (arith, ints, less),
+    λ j starts below. greatest j starts below (cases_lt_0 (j +ℤ pos len)),
+    omega (arith, ints, less),
+  )
+    where
+      behind : ℕ
+      behind = above_last offset slide r.hi
+
+      last : ℤ
+      last = pos r.hi -ℤ pos behind
+
+      less : behind < slide
+      less = omega arith
+
+      quotient : ℕ
+      quotient = (r.hi + slide - offset % slide) / slide
+
+      fewer : ℕ
+      fewer = offset / slide
+
+      starts : (fewer < quotient) ⊎ (quotient ≤ fewer) → IsStart offset slide last
+      starts (inl h) =
+          let m : (quotient - fewer - 1) * slide + (fewer + 1) * slide ≡ quotient * slide = products (quotient - fewer - 1) (fewer + 1) quotient slide (omega arith) in
+          (pos (quotient - fewer - 1), omega (arith, ints, m))
+      starts (inr h) =
+          let m : (fewer - quotient) * slide + quotient * slide ≡ fewer * slide = products (fewer - quotient) quotient fewer slide (omega arith) in
+          (negsuc (fewer - quotient), omega (arith, ints, m))
+
+      greatest : (j : ℤ) → IsStart offset slide j → j ≤ℤ pos r.hi → (pos 0 <ℤ (j +ℤ pos len)) ⊎ ((j +ℤ pos len) ≤ℤ pos 0) → j ≤ℤ last
+      greatest j starts below (inr h) = omega (arith, ints, less)
+      greatest j starts below (inl h) = go (end_is s j 0 starts h)
+        where
+          go : (e : ℕ) × (j +ℤ pos len ≡ pos e) × ((q : ℕ) × (e ≡ phase + q * slide)) → j ≤ℤ last
+          go (e, at, (q, d)) = let x : e ≤ r.hi + len = omega (arith, ints, at) in let y = last_end s r.hi e q d x in omega (arith, ints, at)
+
+  -- a widened range begins at or before its end
+  pub widened_is_range : (r : Range) → 0 < slide → slide ≤ len → r.lo ≤ r.hi → (widened_interval len offset slide r).lo ≤ (widened_interval len offset slide r).hi
+  widened_is_range r s n h = omega arith

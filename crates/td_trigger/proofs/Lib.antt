@@ -6,6 +6,7 @@ pub mod IntervalSplice
 pub mod Joining
 pub mod Lists
 pub mod Merging
+pub mod RegionRanges
 pub mod Segments
 pub mod SessionSplice
 pub mod Sorting

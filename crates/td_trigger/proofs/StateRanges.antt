@@ -133,8 +133,7 @@ one_side_parts p r s h = (λ l. let a = h (omega arith) in omega arith, λ l. le
 pub one_side_each : (rs : List Range) → AreApart 0 rs → AllByRecursion IsRange rs → AllByRecursion (λ r. AllByRecursion (OneSide r.lo) rs × AllByRecursion (OneSide (r.hi + 1)) rs) rs
 one_side_each [] a o = tt
 one_side_each (r ∷ rs) a o =
-    let h = o.0 in
-    (
+    let h = o.0 in (
       (
         (λ l. absurd (omega arith), each_weaker (λ s. r.hi + 0 < s.lo) (OneSide r.lo) (λ s x l. absurd (omega arith)) rs a.0),
         (λ l. omega arith, each_weaker (λ s. r.hi + 0 < s.lo) (OneSide (r.hi + 1)) (λ s x l. absurd (omega arith)) rs a.0),

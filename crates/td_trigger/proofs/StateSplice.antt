@@ -328,8 +328,7 @@ module _ {A : Type 0} (time : A → ℕ) (state : A → Value) (column : List �
     cut_after_each : (rs : List Range) → AllByRecursion (λ r. AllByRecursion (OneSide r.lo) regions × AllByRecursion (OneSide (r.hi + 1)) regions) rs → AllByRecursion (λ u. AllByRecursion (NotSplit u) rs) ws → CutAtEach time apart rs before → CutAtEach time apart rs after
     cut_after_each [] h k c = tt
     cut_after_each (r ∷ rs) h k c =
-        let here : AllByRecursion (λ u. NotSplit u r) ws = each_weaker (λ u. AllByRecursion (NotSplit u) (r ∷ rs)) (λ u. NotSplit u r) (λ u q. q.0) ws k in
-        (
+        let here : AllByRecursion (λ u. NotSplit u r) ws = each_weaker (λ u. AllByRecursion (NotSplit u) (r ∷ rs)) (λ u. NotSplit u r) (λ u q. q.0) ws k in (
           (
             cut_after_at r.lo h.0.0 (each_weaker (λ u. NotSplit u r) (OneSide r.lo) (at_lo_side r) ws here) c.0.0,
             cut_after_at (r.hi + 1) h.0.1 (each_weaker (λ u. NotSplit u r) (OneSide (r.hi + 1)) (at_hi_side r) ws here) c.0.1,

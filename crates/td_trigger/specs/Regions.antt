@@ -1,10 +1,11 @@
 -- Which ranges of timestamps must be computed anew, where rows in some ranges were touched.
-use Rattle.std.specs.Prelude.{ℕ, ◌+◌, ◌-◌, ◌%◌, ◌<◌, ◌≤◌, ℤ, pos, negsuc, nat_lt, nat_le, ◌&&◌, List, [], ◌∷◌, ◌++◌, map, filter, take, drop, length}
+use Rattle.std.specs.Prelude.{◌≡◌, ℕ, ◌+◌, ◌-◌, ◌%◌, ◌<◌, ◌≤◌, ℤ, pos, negsuc, ◌+ℤ◌, ◌<ℤ◌, ◌≤ℤ◌, nat_lt, nat_le, ◌&&◌, List, [], ◌∷◌, ◌++◌, map, filter, take, drop, length}
 use Rattle.std.specs.List.{AllByRecursion}
 use Rattle.std.specs.List.Sorted.{IsNonDecreasingBy}
 use Rattle.td_limits.specs.declared.limits.TheConstants.{LAST_TIMESTAMP, LONGEST_DURATION}
 use Rattle.td_model.specs.declared.language.WindowDef.{WindowDef}
 use Rattle.td_model.specs.declared.language.WindowDef.TheVariants.{Whole, Interval, Session, State}
+use Rattle.td_window.specs.Windows.{IsStart}
 use Rattle.td_window.specs.declared.span.Span.{Span}
 use Rattle.td_trigger.specs.declared.range.Range.{Range}
 use Rattle.td_trigger.specs.Ranges.{taking_in, in_order, joined, IsRange}
@@ -53,6 +54,16 @@ widened_interval len offset slide r = record {
   lo = r.lo + slide - above_last (offset + len) slide r.lo - len;
   hi = r.hi + (len - 1) - above_last offset slide r.hi;
 }
+
+-- in the words of windows: the range begins where the first of the windows that end above its lower end starts, or at 0 ..
+abbrev pub BeginsAtFirstWindow : ℕ → ℕ → ℕ → Range → Type 0
+BeginsAtFirstWindow len offset slide r =
+    (k : ℤ) × IsStart offset slide k × (pos r.lo <ℤ (k +ℤ pos len)) × ((j : ℤ) → IsStart offset slide j → pos r.lo <ℤ (j +ℤ pos len) → k ≤ℤ j) × ((widened_interval len offset slide r).lo ≡ from_0 k)
+
+-- .. and ends where the last of the windows that start at its upper end or below ends
+abbrev pub EndsWithLastWindow : ℕ → ℕ → ℕ → Range → Type 0
+EndsWithLastWindow len offset slide r =
+    (k : ℤ) × IsStart offset slide k × (k ≤ℤ pos r.hi) × ((j : ℤ) → IsStart offset slide j → j ≤ℤ pos r.hi → j ≤ℤ k) × (pos ((widened_interval len offset slide r).hi + 1) ≡ k +ℤ pos len)
 
 -- sessions: with each old window that lies at most the tolerance away from it
 abbrev pub widened_session : ℕ → List Range → Range → Range

@@ -1,9 +1,11 @@
-//! How the windows after a change are spliced from those before it, said by functions that do nothing.
-ghost use Rattle.std.specs.Prelude.{ℕ, ◌<◌, List};
+//! What is true of regions and windows besides, said by functions that do nothing.
+ghost use Rattle.std.specs.Prelude.{ℕ, ◌<◌, ◌≤◌, List};
 ghost use Rattle.td_layer.specs.declared.values.Key.{Key};
 ghost use Rattle.td_layer.specs.declared.values.Row.{Row};
 ghost use Rattle.td_layer.specs.declared.values.Value.{Value};
 ghost use Rattle.td_window.specs.Spans.{time_of};
+ghost use Rattle.td_trigger.specs.declared.range.Range.{Range};
+ghost use Rattle.td_trigger.specs.Regions.{BeginsAtFirstWindow, EndsWithLastWindow};
 ghost use Rattle.td_trigger.specs.Splices.{IntervalsSplice, SessionsSplice, StatesSplice};
 
 /// Where no row outside the touched ranges has changed, the interval windows after the change are those before it that
@@ -20,4 +22,11 @@ pub fn sessions_splice()
 /// The same of state windows, over rows whose timestamps rise and lie in the time range.
 pub fn state_windows_splice()
     ensures { (state : Key × Row → Value) (column : List ℕ) → StatesSplice time_of state column }
+{}
+
+/// A touched range of intervals is widened to where the first window that reaches into it starts, or to 0, and to where
+/// the last window that does so ends.
+pub fn intervals_meet_their_windows()
+    ensures first { (len offset slide : ℕ) (r : Range) → 0 < slide → BeginsAtFirstWindow len offset slide r }
+    ensures last { (len offset slide : ℕ) (r : Range) → 0 < slide → slide ≤ len → EndsWithLastWindow len offset slide r }
 {}

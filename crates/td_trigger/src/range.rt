@@ -2,7 +2,8 @@
 ghost use Rattle.std.specs.Prelude.{◌≡◌};
 ghost use Rattle.td_trigger.specs.Ranges.{hull};
 
-/// The timestamps from `lo` to `hi`, both included, in milliseconds since 1970. Ranges are ordered by `lo`, then by `hi`.
+/// The timestamps from `lo` to `hi`, both included, in milliseconds since 1970. Ranges are ordered by `lo`, then by
+/// `hi`.
 #[derive(Clone, Copy, Debug, PartialEq, Eq, PartialOrd, Ord)]
 pub struct Range {
     pub lo: u64,

@@ -1,5 +1,6 @@
 //! Regions.
 ghost use Rattle.std.specs.Prelude.{◌≡◌, ℕ, ◌+◌, ◌^◌, ◌<◌, ◌≤◌, IfOk, All, map};
+ghost use Rattle.std.specs.List.{AllByRecursion};
 ghost use Rattle.td_trigger.specs.Ranges.{joined, joined_to, IsRange, AreApart};
 ghost use Rattle.td_trigger.specs.Regions.{IsGrouped, AreInOrder, reach_of, widened, join_gap, region};
 
@@ -11,8 +12,9 @@ use td_limits::LONGEST_DURATION;
 use td_model::WindowDef;
 use td_window::Span;
 
-/// The ranges of timestamps that must be computed anew, where rows in the touched ranges came, went or changed: of one group,
-/// whose windows were `old`. They are disjoint and rise, and each touched timestamp lies in one of them.
+/// The ranges of timestamps that must be computed anew in a group, where rows in the touched ranges came, went or changed;
+/// `old` are the group's windows before that. The ranges rise and don't meet. It takes the logarithm of the number of old
+/// windows for each touched range, and sorts the ranges; intervals don't look at the old windows.
 pub fn region(
     alloc: Global,
     touched: &[Range],
@@ -24,6 +26,8 @@ pub fn region(
     requires in_range { All (λ (r : Range). r.hi < 2 ^ 63) touched.now }
     requires old { AreInOrder (map (reach_of window.now) old.now) }
     ensures region { IfOk result (λ ranges. ranges ≡ region touched.now (map (reach_of window.now) old.now) window.now) }
+    ensures ordered { IfOk result (AllByRecursion IsRange) }
+    ensures apart { IfOk result (AreApart (join_gap window.now)) }
 {
     let mut ranges = Vec::with_capacity(alloc, touched.len())?;
     for range in touched {

@@ -66,7 +66,12 @@ pub(crate) fn widened_state(range: Range, old: &[Span]) -> Range
     }
     let first = first_ending_from(old, range.lo, 0);
     let past = first_starting_after(old, range.hi);
-    taking_in(range, old, first.saturating_sub(1), (past + 1).min(old.len()))
+    taking_in(
+        range,
+        old,
+        first.saturating_sub(1),
+        (past + 1).min(old.len()),
+    )
 }
 
 /// The range, widened to take in the old windows from one place on and before another.
