@@ -1,5 +1,5 @@
 -- What a plan picks is what its query picks.
-use Rattle.std.proofs.Common.{◌≡◌, ℕ, ◌≤◌, ◌⊎◌, inl, inr, Bool, true, false, cond, ◌&&◌, ◌==◌, nat_le, List, [], ◌∷◌, ◌++◌, map, filter, length, Option, refl, sym, ap, subst, ◌∙◌, arith, true≢false}
+use Rattle.std.proofs.Common.{◌≡◌, ℕ, ◌≤◌, ◌⊎◌, inl, inr, Bool, true, false, cond, ◌&&◌, ◌==◌, nat_le, List, [], ◌∷◌, ◌++◌, map, filter, length, Option, refl, sym, ap, subst, ◌∙◌, true≢false}
 use Rattle.std.specs.List.{AllByRecursion, flat_map}
 use Rattle.std.proofs.lemmas.Bool.{and_left, and_from, eqb-true}
 use Rattle.td_layer.specs.declared.values.Key.{Key}
@@ -135,8 +135,8 @@ picks_over q s source target c ps rows late (inr time) = by s.columns refl time
     by (d ∷ ds) is no_time =
         let p : Plan = plan_over q s (planned source (length s.columns) ps c) ps target in
         let each : (t : Numbered) → table_found p ps rows (entry t) ≡ found_in s.columns ps rows t =
-            λ t. subst (λ (columns : List Column). found_of columns ps (entry t) (filter (λ (e : Key × Row). is_cut t.0 (lowest ps) (highest ps) e.0) rows) ≡ found_in columns ps rows t) (sym is)
-                (same_table (d ∷ ds) ps (lowest ps) (highest ps) t rows (held_inside d ds ps t rows late)) in
+        λ t. subst (λ (columns : List Column). found_of columns ps (entry t) (filter (λ (e : Key × Row). is_cut t.0 (lowest ps) (highest ps) e.0) rows) ≡ found_in columns ps rows t) (sym is)
+        (same_table (d ∷ ds) ps (lowest ps) (highest ps) t rows (held_inside d ds ps t rows late)) in
         ap (λ xs. put_in_time [] (flat_map (table_found p ps rows) xs)) (entries (planned source (length s.columns) ps c))
         ∙ ap (put_in_time []) (all_tables_in s.columns ps rows source (table_found p ps rows) each (all_tables c))
 

@@ -1,14 +1,13 @@
 -- What a sound state says of its rows, and of the schema of a query's source.
-use Rattle.std.proofs.Common.{◌≡◌, ℕ, ◌-◌, ◌≤◌, ◌⊎◌, inl, inr, false, List, length, slice_get, Option, Some, None, refl, sym, ap, subst, ◌∙◌, arith}
+use Rattle.std.proofs.Common.{◌≡◌, ℕ, ◌≤◌, ◌⊎◌, inl, inr, false, Option, Some, None, refl}
 use Rattle.std.specs.List.{AllByRecursion}
-use Rattle.std.specs.Option.{option_map, unwrap_or}
 use Rattle.std.proofs.lemmas.List.Elements.{All-weaker, recursion_from_All}
 use Rattle.td_layer.specs.declared.values.Key.{Key}
 use Rattle.td_layer.specs.declared.values.Row.{Row}
 use Rattle.td_limits.specs.declared.limits.TheConstants.{LAST_TIMESTAMP}
 use Rattle.td_model.specs.declared.language.Query.{Query}
 use Rattle.td_model.specs.Catalog.{Catalog, table_named, stable_named}
-use Rattle.td_model.specs.State.{State, Rows}
+use Rattle.td_model.specs.State.{State}
 use Rattle.td_verdict.specs.declared.source.Source.TheVariants.{Other}
 use Rattle.td_verdict.specs.Names.{lacks_time}
 use Rattle.td_verdict.specs.Queries.{source_by, source_of, source_schema, schema_from}

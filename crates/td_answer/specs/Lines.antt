@@ -1,5 +1,5 @@
 -- The cells of a row that is lent.
-use Rattle.std.specs.Prelude.{ℕ, List, map, slice_get}
+use Rattle.std.specs.Prelude.{ℕ, List, map}
 use Rattle.td_layer.specs.declared.values.Cell.{Cell}
 use Rattle.td_model.specs.declared.catalog.Column.{Column}
 use Rattle.td_verdict.specs.Fields.{row_cells}

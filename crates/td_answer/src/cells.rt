@@ -64,7 +64,12 @@ fn holds(columns: &[Column], line: &Line<'_>, comparison: &Comparison) -> bool
         return cell_matches(comparison.op, &cell, &comparison.operand);
     }
     let tag = place - 1 - columns.len();
-    tag_matches(line.tags.as_slice(), tag, comparison.op, &comparison.operand)
+    tag_matches(
+        line.tags.as_slice(),
+        tag,
+        comparison.op,
+        &comparison.operand,
+    )
 }
 
 // Whether all comparisons are true of a row's cells.

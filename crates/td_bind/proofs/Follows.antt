@@ -35,7 +35,7 @@ use Rattle.td_catalog.specs.Kept.{IsFree, IsNumbered, CanFollow}
 use Rattle.td_catalog.proofs.Apart.{apart_first}
 use Rattle.td_verdict.specs.Causes.{when, first_cause, accepted_or}
 use Rattle.td_verdict.specs.Names.{is_table, is_stable, is_target, is_taken, is_stream, is_first, is_named, names_of, number_or_none, table_schema, stable_schema, stands_twice, lacks_time, column_named}
-use Rattle.td_verdict.specs.Sound.{IsFromEdge, IsKey, IsPut, IsCut, is_named_of}
+use Rattle.td_verdict.specs.Sound.{IsFromEdge, IsPut, is_named_of}
 use Rattle.td_verdict.specs.Valid.{AreTags, IsSchema, IsValid}
 use Rattle.td_verdict.specs.Values.{has_width, number_at, text_at, text_fits, is_null, suits, fits}
 use Rattle.td_verdict.specs.Writes.{first_given, is_full, definition_cause, have_one_name, width_cause, count_cause, size_cause, make_stable_verdict, make_table_verdict, make_sub_cause, make_sub_verdict, tags_cause, stable_cause, tag_cells, mismatch_of, outside_of, first_column, is_mismatch, is_outside, first_place, time_at, time_from, is_before, lacks_first, listed, bad_bound, cut_of, refused_or, written_cause, list_cause, rows_cause, groups_cause, groups_verdict, chosen, put_of, insert_verdict, delete_cause, delete_verdict, bound_of, write_verdict}
@@ -251,11 +251,12 @@ sub_follows name stable lits moment c w n h =
     let cause = make_sub_cause name stable tags lits moment c in
     let none = no_cause cause made w 0 n h in
     let of = sub_of name stable tags lits moment c none in
-    subst (λ v. CanFollow v c) (accepted cause made w 0 n h)
-    (sub_free name stable tags lits moment c none,
-     is_numbered stable c (stable_named stable c) refl of,
-     subst (λ (ts : List Column). AreTags ts (tag_cells moment tags lits)) (tags_of_found c (stable_named stable c) of) (sub_tags name stable tags lits moment c none),
-     room c (sub_fits name stable tags lits moment c none))
+    subst (λ v. CanFollow v c) (accepted cause made w 0 n h) (
+      sub_free name stable tags lits moment c none,
+      is_numbered stable c (stable_named stable c) refl of,
+      subst (λ (ts : List Column). AreTags ts (tag_cells moment tags lits)) (tags_of_found c (stable_named stable c) of) (sub_tags name stable tags lits moment c none),
+      room c (sub_fits name stable tags lits moment c none),
+    )
 
 -- what leaves the catalog as it is may follow any
 plain_follows : (o : Option Cause) (made : What) (m : ℕ) (c : Catalog) (w : What) (n : ℕ) → CanFollow made c → accepted_or o made m ≡ Accept w n → CanFollow w c
@@ -389,9 +390,10 @@ module _ (moment edge number : ℕ) (columns places : List Column) (c : Catalog)
       → AllByRecursion (λ g. first_column (is_outside columns moment) places g ≡ None) groups → AllByRecursion (λ g. is_before edge (time_at moment g (first_place columns places)) ≡ false) groups
       → AllByRecursion (GoodPut c edge) (map (put_of number columns places moment) groups)
   good_puts [] long mismatch outside before = tt
-  good_puts (g ∷ gs) long mismatch outside before =
-      (good_put g (not_false (length g == length places) long.0) (none_found (is_mismatch moment) places g mismatch.0) (none_found (is_outside columns moment) places g outside.0) before.0,
-       good_puts gs long.1 mismatch.1 outside.1 before.1)
+  good_puts (g ∷ gs) long mismatch outside before = (
+    good_put g (not_false (length g == length places) long.0) (none_found (is_mismatch moment) places g mismatch.0) (none_found (is_outside columns moment) places g outside.0) before.0,
+    good_puts gs long.1 mismatch.1 outside.1 before.1,
+  )
 
 -- what an INSERT is accepted as
 Good : Catalog → ℕ → What → Type 0
@@ -424,14 +426,15 @@ insert_good table names groups edge moment c w n valid h =
     let early = when (list_any (λ group. is_before edge (time_at moment group (first_place columns places))) groups) (cause.BeforeEdge edge) in
     let no_rows : rows ≡ None = first_none rows [] (rest_none outside (rows ∷ []) (rest_none mismatch (outside ∷ rows ∷ []) (rest_none arity (mismatch ∷ outside ∷ rows ∷ []) no_groups))) in
     let goods : AllByRecursion (GoodPut c edge) (map (put_of number columns places moment) groups) =
-        good_puts moment edge number columns places c there of schema.time kinds place.0 place.1 groups
-        (none_any (λ group. not (length group == length places)) groups (not_when (list_any (λ group. not (length group == length places)) groups) cause.Arity (first_none arity (mismatch ∷ outside ∷ rows ∷ []) no_groups)))
-        (none_given (first_column (is_mismatch moment) places) groups (no_mismatch (first_given (first_column (is_mismatch moment) places) groups) (second_none arity mismatch (outside ∷ rows ∷ []) no_groups)))
-        (none_given (first_column (is_outside columns moment) places) groups (no_outside (first_given (first_column (is_outside columns moment) places) groups) (third_none arity mismatch outside (rows ∷ []) no_groups)))
-        (none_any (λ group. is_before edge (time_at moment group (first_place columns places))) groups (not_when (list_any (λ group. is_before edge (time_at moment group (first_place columns places))) groups) (cause.BeforeEdge edge) (second_none many_rows early [] no_rows))) in
-    subst (λ v. CanFollow v c × IsFromEdge edge v) (accepted (groups_cause columns places groups edge moment) made w (length groups) n parts.1)
-    (All-from_recursion (IsPut c) (map (put_of number columns places moment) groups) (all_weaker (GoodPut c edge) (IsPut c) (λ p g. g.put) (map (put_of number columns places moment) groups) goods),
-     All-from_recursion (λ (p : Put). edge * DAY_RANGE ≤ p.key.ts) (map (put_of number columns places moment) groups) (all_weaker (GoodPut c edge) (λ (p : Put). edge * DAY_RANGE ≤ p.key.ts) (λ p g. g.late) (map (put_of number columns places moment) groups) goods))
+    good_puts moment edge number columns places c there of schema.time kinds place.0 place.1 groups
+    (none_any (λ group. not (length group == length places)) groups (not_when (list_any (λ group. not (length group == length places)) groups) cause.Arity (first_none arity (mismatch ∷ outside ∷ rows ∷ []) no_groups)))
+    (none_given (first_column (is_mismatch moment) places) groups (no_mismatch (first_given (first_column (is_mismatch moment) places) groups) (second_none arity mismatch (outside ∷ rows ∷ []) no_groups)))
+    (none_given (first_column (is_outside columns moment) places) groups (no_outside (first_given (first_column (is_outside columns moment) places) groups) (third_none arity mismatch outside (rows ∷ []) no_groups)))
+    (none_any (λ group. is_before edge (time_at moment group (first_place columns places))) groups (not_when (list_any (λ group. is_before edge (time_at moment group (first_place columns places))) groups) (cause.BeforeEdge edge) (second_none many_rows early [] no_rows))) in
+    subst (λ v. CanFollow v c × IsFromEdge edge v) (accepted (groups_cause columns places groups edge moment) made w (length groups) n parts.1) (
+      All-from_recursion (IsPut c) (map (put_of number columns places moment) groups) (all_weaker (GoodPut c edge) (IsPut c) (λ p g. g.put) (map (put_of number columns places moment) groups) goods),
+      All-from_recursion (λ (p : Put). edge * DAY_RANGE ≤ p.key.ts) (map (put_of number columns places moment) groups) (all_weaker (GoodPut c edge) (λ (p : Put). edge * DAY_RANGE ≤ p.key.ts) (λ p g. g.late) (map (put_of number columns places moment) groups) goods),
+    )
 
 -- what a DELETE is accepted as
 cut_good : (b : Bool) (table : ℕ) (lo hi : ℤ) (c : Catalog) → IsNumbered table (length c.tables) → CanFollow (cond b (what.Cut table 1 0) (what.Cut table (time_from lo) (time_from hi))) c

@@ -1,8 +1,5 @@
 -- What CREATE TABLE of a subtable meets, where its supertable is found, its name is free, and it has a literal for each tag.
-use Rattle.std.proofs.Common.{◌≡◌, ℕ, Bool, true, false, ◌||◌, not, nat_eq, ◌==◌, cond, List, [], ◌∷◌, length, Option, Some, None, is_some, refl, sym, ap, ◌∙◌, arith}
-use Rattle.std.specs.Option.{unwrap_or}
-use Rattle.std.proofs.lemmas.Bool.Decides.{nat_tests}
-use Rattle.std.proofs.lemmas.Option.{same_Some}
+use Rattle.std.proofs.Common.{◌≡◌, ℕ, Bool, true, false, ◌||◌, not, ◌==◌, List, [], ◌∷◌, length, Option, Some, None, is_some, refl, sym, ap, ◌∙◌}
 use Rattle.td_layer.specs.declared.values.Cell.{Cell}
 use Rattle.td_model.specs.declared.catalog.Column.{Column}
 use Rattle.td_model.specs.declared.history.What.{What}
@@ -14,7 +11,7 @@ use Rattle.td_model.specs.declared.report.Cause.TheVariants as cause
 use Rattle.td_model.specs.Catalog.{Catalog, stable_named}
 use Rattle.td_verdict.specs.Causes.{when, first_cause, accepted_or}
 use Rattle.td_verdict.specs.Names.{is_table, is_target, is_taken, number_or_none, stable_schema}
-use Rattle.td_verdict.specs.Writes.{tags_cause, tag_cells, stable_cause, make_sub_cause, make_sub_in, make_sub_verdict}
+use Rattle.td_verdict.specs.Writes.{tags_cause, tag_cells, stable_cause, make_sub_cause, make_sub_verdict}
 use Rattle.td_bind.specs.Literals.{said_group, tags_said, cells_said}
 use Rattle.td_bind.proofs.Read.{tags_are_said, cells_are_said}
 

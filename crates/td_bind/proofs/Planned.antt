@@ -1,5 +1,5 @@
 -- The plan of a query: its range of timestamps, its tables, and the whole; and the order of its causes.
-use Rattle.std.proofs.Common.{◌≡◌, ℕ, ◌+◌, ◌<◌, min, max, List, [], ◌∷◌, ◌++◌, map, length, take, get_or, Option, Some, None, Result, Ok, Err, refl, sym, ap, ◌∙◌, arith}
+use Rattle.std.proofs.Common.{◌≡◌, ℕ, ◌+◌, ◌<◌, min, max, List, [], ◌∷◌, ◌++◌, map, length, take, get_or, Option, Some, None, Result, Ok, Err, sym, ap, ◌∙◌, arith}
 use Rattle.std.specs.Option.{option_or}
 use Rattle.std.specs.Result.{IfOk}
 use Rattle.std.proofs.lemmas.List.{take_more}
@@ -12,7 +12,7 @@ use Rattle.td_model.specs.Catalog.{Catalog, target_named}
 use Rattle.td_verdict.specs.declared.comparison.Comparison.{Comparison}
 use Rattle.td_verdict.specs.declared.source.Source.{Source}
 use Rattle.td_verdict.specs.Fields.{comparisons_of}
-use Rattle.td_verdict.specs.Queries.{source_cause, source_of, source_schema, schema_from, body_cause, query_cause, query_verdict, passes_or}
+use Rattle.td_verdict.specs.Queries.{source_cause, source_of, source_schema, body_cause, query_cause, query_verdict, passes_or}
 use Rattle.td_verdict.specs.Plans.{Numbered, low, high, lowest, highest, planned, plan_over, plan_from, plan_of}
 use Rattle.td_bind.specs.Answers.{query_verdict_of, IsAnswerOf}
 use Rattle.td_bind.specs.Tables.{numbers_of, tags_at, name_at, no_cells, AreThere}

@@ -1,17 +1,14 @@
 -- What is read off what groups say is what the definitions give of their literals.
-use Rattle.std.proofs.Common.{◌≡◌, ℕ, ℤ, pos, suc, zero, ◌==◌, Bool, true, false, ◌&&◌, ◌||◌, not, cond, List, [], ◌∷◌, length, map, zip, drop, slice_get, Option, Some, None, refl, sym, ap, ◌∙◌, nat_lt, true≢false}
+use Rattle.std.proofs.Common.{◌≡◌, ℕ, pos, suc, zero, ◌==◌, Bool, true, false, ◌&&◌, ◌||◌, not, cond, List, [], ◌∷◌, length, map, zip, drop, slice_get, Option, Some, None, refl, sym, ap, ◌∙◌, nat_lt, true≢false}
 use Rattle.std.specs.List.{AllByRecursion, find, list_any}
 use Rattle.std.specs.Option.{option_map, option_and_then, option_or, unwrap_or}
 use Rattle.std.proofs.lemmas.Option.{same_Some}
 use Rattle.std.proofs.lemmas.List.Elements.{All-drop, All-head, recursion_from_All}
 use Rattle.td_cols.specs.declared.kinds.Kind.{Kind}
 use Rattle.td_cols.specs.declared.kinds.Kind.TheVariants as kind
-use Rattle.td_layer.specs.declared.values.Cell.{Cell}
-use Rattle.td_layer.specs.declared.values.Value.{Value}
 use Rattle.td_model.specs.declared.catalog.Column.{Column}
 use Rattle.td_model.specs.declared.history.Put.{Put}
 use Rattle.td_model.specs.declared.history.What.TheVariants as what
-use Rattle.td_model.specs.declared.history.Verdict.{Verdict}
 use Rattle.td_model.specs.declared.history.Verdict.TheVariants.{Accept, Refuse}
 use Rattle.td_model.specs.declared.language.Lit.{Lit}
 use Rattle.td_model.specs.declared.report.Cause.{Cause}
@@ -22,13 +19,13 @@ use Rattle.td_model.specs.declared.report.Many.TheVariants as many
 use Rattle.td_verdict.specs.Causes.{when, first_cause, accepted_or}
 use Rattle.td_verdict.specs.Names.{is_first, is_time, lacks_time}
 use Rattle.td_verdict.specs.Values.{number_at, value_of}
-use Rattle.td_verdict.specs.Writes.{first_given, is_mismatch, is_outside, first_column, mismatch_of, outside_of, tag_cells, tags_cause, is_full, place_of, first_place, time_at, cell_at, literal_at, is_before, time_from, put_of, rows_cause, groups_cause, groups_verdict}
+use Rattle.td_verdict.specs.Writes.{first_given, is_mismatch, is_outside, first_column, mismatch_of, outside_of, tag_cells, tags_cause, is_full, place_of, first_place, time_at, cell_at, is_before, time_from, put_of, rows_cause, groups_cause, groups_verdict}
 use Rattle.td_fields.specs.declared.literals.Said.{Said}
-use Rattle.td_fields.specs.Said.{said_at, number_said, value_said, is_null_said, is_fit, cell_from}
+use Rattle.td_fields.specs.Said.{said_at, number_said, value_said}
 use Rattle.td_fields.proofs.Read.{suits_read, null_read, fits_read, number_read, value_read, cell_read}
 use Rattle.td_bind.specs.declared.literals.Fault.{Fault}
 use Rattle.td_bind.specs.declared.literals.Fault.TheVariants.{Mismatch, Outside}
-use Rattle.td_bind.specs.Literals.{said_group, is_at_fault, first_said, said_in, time_said, cell_said, put_said, HasKinds, rows_said, said_cause, tags_said, cells_said}
+use Rattle.td_bind.specs.Literals.{said_group, is_at_fault, first_said, time_said, cell_said, put_said, HasKinds, said_cause, tags_said, cells_said}
 
 -- ---- the first column that is wrong
 
@@ -157,10 +154,10 @@ module _ (moment : ℕ) (columns places : List Column) (time : lacks_time column
       let rest : List (Option Cause) = mismatch_of (first_given (first_column (is_mismatch moment) places) groups) ∷ outside_of (first_given (first_column (is_outside columns moment) places) groups) ∷ rows_cause columns places groups edge moment ∷ [] in
       ap (λ b. first_cause (when b cause.Arity ∷ rest)) same
       ∙ sym (λ i. first_cause (
-          mismatch_of (in_groups Mismatch (is_mismatch moment) moment columns (mismatch_test moment columns) places groups i)
-          ∷ outside_of (in_groups Outside (is_outside columns moment) moment columns (outside_test moment columns) places groups i)
-          ∷ first_cause (when (nat_lt INSERT_ROWS (length_is groups i)) (cause.TooMany many.Rows INSERT_ROWS) ∷ when (before_is edge groups i) (cause.BeforeEdge edge) ∷ [])
-          ∷ []))
+      mismatch_of (in_groups Mismatch (is_mismatch moment) moment columns (mismatch_test moment columns) places groups i)
+      ∷ outside_of (in_groups Outside (is_outside columns moment) moment columns (outside_test moment columns) places groups i)
+      ∷ first_cause (when (nat_lt INSERT_ROWS (length_is groups i)) (cause.TooMany many.Rows INSERT_ROWS) ∷ when (before_is edge groups i) (cause.BeforeEdge edge) ∷ [])
+      ∷ []))
 
   pub refused_length : (table edge : ℕ) (groups : List (List Lit)) → list_any (λ group. not (length group == length places)) groups ≡ true → Refuse cause.Arity ≡ groups_verdict table columns places groups edge moment
   refused_length table edge groups other =
@@ -185,9 +182,9 @@ tags_are_said moment tags lits c long =
     let rest : List (Option Cause) = mismatch_of (first_column (is_mismatch moment) tags lits) ∷ outside_of (first_column (is_outside [] moment) tags lits) ∷ when (is_full c) (cause.TooMany many.Tables TABLES) ∷ [] in
     ap (λ b. first_cause (when (not b) cause.Arity ∷ rest)) long
     ∙ sym (λ i. first_cause (
-        mismatch_of (column_is Mismatch (is_mismatch moment) moment [] (mismatch_test moment []) tags lits i)
-        ∷ outside_of (column_is Outside (is_outside [] moment) moment [] (outside_test moment []) tags lits i)
-        ∷ when (is_full c) (cause.TooMany many.Tables TABLES) ∷ []))
+    mismatch_of (column_is Mismatch (is_mismatch moment) moment [] (mismatch_test moment []) tags lits i)
+    ∷ outside_of (column_is Outside (is_outside [] moment) moment [] (outside_test moment []) tags lits i)
+    ∷ when (is_full c) (cause.TooMany many.Tables TABLES) ∷ []))
 
 pub cells_are_said : (moment : ℕ) (tags : List Column) (lits : List Lit) → cells_said tags (said_group moment tags lits) lits ≡ tag_cells moment tags lits
 cells_are_said moment [] lits = refl

@@ -1,6 +1,6 @@
 -- The plan of a query that passes is sound.
-use Rattle.std.proofs.Common.{◌≡◌, ℕ, ◌+◌, ◌<◌, ◌≤◌, ◌==◌, Bool, true, false, ◌&&◌, cond, nat_eq, List, [], ◌∷◌, ◌++◌, map, filter, length, Option, Some, None, Result, Ok, Err, All, refl, sym, ap, subst, ◌∙◌, arith, true≢false}
-use Rattle.std.specs.List.{AllByRecursion, list_any}
+use Rattle.std.proofs.Common.{◌≡◌, ℕ, ◌+◌, ◌<◌, ◌==◌, Bool, true, false, cond, List, [], ◌∷◌, map, filter, length, Option, Some, None, Result, Ok, Err, refl, sym, ap, subst, ◌∙◌, arith, true≢false}
+use Rattle.std.specs.List.{AllByRecursion}
 use Rattle.std.specs.List.Sorted.{IsStrictlySortedBy}
 use Rattle.std.specs.Option.{option_map_or, option_or}
 use Rattle.std.specs.Ordering.{nat_cmp}
@@ -14,11 +14,10 @@ use Rattle.td_layer.specs.declared.values.Cell.{Cell}
 use Rattle.td_model.specs.declared.catalog.TableDef.{TableDef}
 use Rattle.td_model.specs.declared.language.Query.{Query}
 use Rattle.td_model.specs.declared.plan.Plan.{Plan}
-use Rattle.td_model.specs.declared.history.Verdict.{Verdict}
-use Rattle.td_model.specs.declared.history.Verdict.TheVariants.{Pass, Refuse}
+use Rattle.td_model.specs.declared.history.Verdict.TheVariants.{Pass}
 use Rattle.td_model.specs.declared.report.Cause.{Cause}
 use Rattle.td_model.specs.Built.{is_row_query}
-use Rattle.td_model.specs.Catalog.{Catalog, table_at, no_schema}
+use Rattle.td_model.specs.Catalog.{Catalog, table_at}
 use Rattle.td_catalog.proofs.Apart.{apart_first, apart_fewer}
 use Rattle.td_verdict.specs.declared.comparison.Comparison.{Comparison}
 use Rattle.td_verdict.specs.declared.source.Source.{Source}

@@ -1,17 +1,16 @@
 -- A sound state stays sound as an entry that can follow it is made.
-use Rattle.std.proofs.Common.{◌≡◌, ◌⊎◌, inl, inr, ℕ, suc, zero, ◌+◌, ◌-◌, ◌*◌, ◌<◌, ◌≤◌, nat_le, Bool, true, false, not, cond, List, [], ◌∷◌, ◌++◌, map, filter, drop, length, slice_get, Option, Some, None, All, refl, sym, ap, subst, ◌∙◌, arith, length-append}
+use Rattle.std.proofs.Common.{◌≡◌, inl, inr, ℕ, ◌+◌, ◌-◌, ◌*◌, ◌≤◌, nat_le, Bool, true, false, not, cond, List, [], ◌∷◌, ◌++◌, filter, drop, length, slice_get, Option, Some, None, All, refl, sym, ap, subst, ◌∙◌, arith, length-append}
 use Rattle.std.specs.List.{AllByRecursion, AllZip}
-use Rattle.std.specs.Map.{lookup}
-use Rattle.std.specs.BTreeMap.{insert_entry, is_at}
+use Rattle.std.specs.BTreeMap.{is_at}
 use Rattle.std.specs.Option.{option_map, unwrap_or}
 use Rattle.std.specs.Ordering.{match_ordering, is_eq}
 use Rattle.std.specs.declared.cmp.Ordering.{Ordering}
 use Rattle.std.specs.declared.cmp.Ordering.TheVariants.{Less, Equal, Greater}
-use Rattle.std.proofs.lemmas.Bool.{le-leb, leb-true}
+use Rattle.std.proofs.lemmas.Bool.{leb-true}
 use Rattle.std.proofs.lemmas.Bool.Decides.{nat_tests}
 use Rattle.std.proofs.lemmas.List.Elements.{All-filter, All-from_recursion, All-get_or, All-weaker, filter_passes, recursion_from_All}
 use Rattle.std.proofs.lemmas.Option.{same_Some, slice_get_cases, slice_get_within, get_or_from_slice_get}
-use Rattle.td_limits.specs.declared.limits.TheConstants.{DAY_RANGE, LAST_TIMESTAMP}
+use Rattle.td_limits.specs.declared.limits.TheConstants.{DAY_RANGE}
 use Rattle.td_layer.specs.declared.values.Key.{Key}
 use Rattle.td_layer.specs.declared.values.Row.{Row}
 use Rattle.td_layer.specs.declared.values.Value.{Value}
@@ -24,16 +23,14 @@ use Rattle.td_model.specs.declared.history.Entry.{Entry}
 use Rattle.td_model.specs.declared.history.Put.{Put}
 use Rattle.td_model.specs.declared.history.What.{What}
 use Rattle.td_model.specs.declared.history.What.TheVariants as what
-use Rattle.td_model.specs.Catalog.{Catalog, table_at, stable_at, schema_of, schema_by, schema_or_none, no_schema, with_what}
+use Rattle.td_model.specs.Catalog.{Catalog, table_at, schema_of, schema_by, schema_or_none, no_schema, with_what}
 use Rattle.td_model.specs.State.{State, Rows, key_cmp, row_at, with_row, lay, is_cut, parent_of, latest_raised, row_put, put_one, put_all, effect, newest, step, trail, after}
 use Rattle.td_catalog.specs.Kept.{CanFollow}
 use Rattle.td_catalog.proofs.After.{effect-catalog, puts-keep}
 use Rattle.td_catalog.proofs.Valid.{follows_valid, slice_left}
-use Rattle.td_verdict.specs.Names.{table_schema}
-use Rattle.td_verdict.specs.Sound.{IsFromEdge, IsKey, IsPut, IsRow, IsSound, is_named_of, is_value_of, value_columns}
+use Rattle.td_verdict.specs.Sound.{IsFromEdge, IsPut, IsRow, IsSound, is_named_of, is_value_of, value_columns}
 use Rattle.td_verdict.specs.Valid.{IsTable, IsTableBy, IsValid}
 use Rattle.td_bind.specs.Legal.{IsAccepted, IsLegal}
-use Rattle.td_bind.proofs.Filters.{all_weaker}
 use Rattle.td_bind.proofs.Follows.{accepted_good}
 
 -- ---- values of a row that a put was laid over

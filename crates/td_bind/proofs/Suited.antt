@@ -1,28 +1,23 @@
 -- What is accepted lies in the range of its kind.
-use Rattle.std.proofs.Common.{◌≡◌, ℕ, ℤ, pos, negsuc, suc, zero, get_or, ◌+◌, ◌*◌, ◌<◌, ◌≤◌, ◌==◌, nat_le, nat_lt, nat_eq, min, Bool, true, false, ◌&&◌, ◌||◌, not, cond, List, [], ◌∷◌, length, map, zip, drop, slice_get, Option, Some, None, is_some, position, refl, sym, ap, subst, ◌∙◌, arith, true≢false}
+use Rattle.std.proofs.Common.{◌≡◌, ℕ, ℤ, suc, zero, get_or, ◌==◌, nat_le, nat_lt, nat_eq, Bool, true, false, ◌&&◌, ◌||◌, not, cond, List, [], ◌∷◌, length, map, zip, drop, slice_get, Option, Some, None, is_some, position, refl, sym, ap, subst, ◌∙◌, arith, true≢false}
 use Rattle.std.specs.List.{AllByRecursion, AllZip, cons_option, find, list_any, filter_map, position_or_len}
-use Rattle.std.specs.Option.{option_map, option_map_or, option_and_then, unwrap_or}
+use Rattle.std.specs.Option.{option_map, option_map_or, unwrap_or}
 use Rattle.std.specs.Str.{bytes_eq}
-use Rattle.std.specs.Cmp.Lexicographic.{nat_list_eq_equiv}
-use Rattle.std.proofs.lemmas.Bool.{or_from, or_parts, and_parts}
+use Rattle.std.proofs.lemmas.Bool.{or_parts, and_parts}
 use Rattle.std.proofs.lemmas.Bool.Decides.{nat_tests}
 use Rattle.std.proofs.lemmas.Option.{same_Some, slice_get-get_or}
 use Rattle.std.proofs.lemmas.List.Elements.{All-drop, All-from_recursion, All-get_or, recursion_from_All}
 use Rattle.std.proofs.lemmas.List.Quantifiers.{position-Some}
 use Rattle.std.proofs.lemmas.Slice.Eq.{bytes_eq-Decides}
 use Rattle.td_cols.specs.declared.kinds.Kind.{Kind}
-use Rattle.td_cols.specs.declared.kinds.Kind.TheVariants as kind
 use Rattle.td_cols.specs.Kinds.{is_in_range}
-use Rattle.td_layer.specs.declared.values.Cell.{Cell}
 use Rattle.td_layer.specs.declared.values.Cell.TheVariants as cell
 use Rattle.td_layer.specs.declared.values.Value.{Value}
-use Rattle.td_layer.specs.declared.values.Value.TheVariants as value
 use Rattle.td_model.specs.declared.catalog.Column.{Column}
 use Rattle.td_model.specs.declared.language.Lit.{Lit}
-use Rattle.td_model.specs.declared.language.Lit.TheVariants as lit
-use Rattle.td_verdict.specs.Names.{is_first, is_named, column_named, is_time, lacks_time, names_of, stands_twice}
-use Rattle.td_verdict.specs.Values.{is_truth, is_text, width_of, number_at, text_at, is_null, suits, fits, number_fits, text_fits, value_of, value_or_null, number_cell, tag_from, tag_of}
-use Rattle.td_verdict.specs.Writes.{first_given, is_mismatch, is_outside, first_column, tag_cells, cell_at, literal_at, place_of, first_place, time_at, chosen, lacks_first}
+use Rattle.td_verdict.specs.Names.{is_first, is_named, column_named, lacks_time, names_of, stands_twice}
+use Rattle.td_verdict.specs.Values.{is_truth, is_text, width_of, number_at, text_at, is_null, fits, text_fits, value_of, value_or_null, number_cell, tag_from, tag_of}
+use Rattle.td_verdict.specs.Writes.{is_outside, first_column, tag_cells, cell_at, place_of, first_place, chosen, lacks_first}
 use Rattle.td_verdict.specs.Valid.{suits_kind, AreTags}
 use Rattle.td_verdict.specs.Sound.{is_value_of, is_named_of}
 use Rattle.td_catalog.proofs.Valid.{at_end}
@@ -46,6 +41,7 @@ text_width k l t h fit = by (width_of k) refl fit
   where
     no_text : (l : Lit) → is_some (width_of k) ≡ false → text_at k l ≡ None
     no_text l e = text_kind k l e
+
     by : (w : Option ℕ) → width_of k ≡ w → nat_le (length t) (unwrap_or w 0) ≡ true → option_map_or (λ width. nat_le (length t) width) w false ≡ true
     by (Some w) e f = f
     by None e f = let none : text_at k l ≡ None = no_text l (ap is_some e) in absurd (cc)
@@ -216,6 +212,7 @@ among_chosen c cs (name ∷ names) h = by (bytes_eq c.name name) refl h (among_c
     more : (o : Option Column) (xs : List Column) → list_any (is_named c.name) xs ≡ true → list_any (is_named c.name) (cons_option o xs) ≡ true
     more None xs k = k
     more (Some d) xs k = or_right (is_named c.name d) (list_any (is_named c.name) xs) k
+
     by : (b : Bool) → bytes_eq c.name name ≡ b → (b || list_any (is_first (c ∷ cs)) names) ≡ true → (list_any (is_first (c ∷ cs)) names ≡ true → list_any (is_named c.name) (filter_map (column_named (c ∷ cs)) names) ≡ true)
         → list_any (is_named c.name) (cons_option (cond b (Some c) (column_named cs name)) (filter_map (column_named (c ∷ cs)) names)) ≡ true
     by true e k rest = or_left (bytes_eq c.name c.name) (list_any (is_named c.name) (filter_map (column_named (c ∷ cs)) names)) (own_name c.name)
@@ -249,6 +246,7 @@ module _ (moment : ℕ) (columns places : List Column) (group : List Lit) (kinds
       with_literal : (i : ℕ) (o : Option Lit) → place_of places c.name ≡ Some i → slice_get group i ≡ o → is_named_of c.kind (option_map (value_of c.kind moment) o) ≡ true
       with_literal i None here there = refl
       with_literal i (Some l) here there = value_suits c.kind moment l (literal_fits c i l (kind i here) there)
+
       at : (o : Option ℕ) → place_of places c.name ≡ o → is_named_of c.kind (cell_at moment group c.kind o) ≡ true
       at None here = refl
       at (Some i) here = with_literal i (slice_get group i) here refl

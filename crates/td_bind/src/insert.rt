@@ -98,7 +98,9 @@ fn is_group_before(edge: u32, said: &[Said], first: Option<usize>) -> bool
 fn any_before(edge: u32, groups: &[Seq<Said>], first: Option<usize>) -> bool
     ensures { result ≡ list_any (λ said. is_before edge (time_said said first)) groups.now }
 {
-    groups.iter().any(|said| is_group_before(edge, said.as_slice(), first))
+    groups
+        .iter()
+        .any(|said| is_group_before(edge, said.as_slice(), first))
 }
 
 // Whether a group has another count of literals.

@@ -10,5 +10,4 @@ ghost use Rattle.td_bind.specs.Legal.{IsLegal};
 /// not before the retention edge.
 pub fn history_stays_sound()
     ensures { (b : State) (h : List Entry) → IsSound b → IsLegal (b ∷ []) h → IsSound (after b h) }
-{
-}
+{}

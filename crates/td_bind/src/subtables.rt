@@ -16,11 +16,7 @@ use td_limits::TABLES;
 use td_model::{Cause, Column, Lit, Many, What};
 
 // Why what is said of a subtable's tags is refused, or that there is no place for it.
-fn tags_cause(
-    tags: &[Column],
-    said: &[Said],
-    catalog: &Catalog,
-) -> Result<Option<Cause>, NoMem>
+fn tags_cause(tags: &[Column], said: &[Said], catalog: &Catalog) -> Result<Option<Cause>, NoMem>
     ensures { IfOk result (λ cause. cause ≡ tags_said tags.now said.now catalog.now.catalog) }
 {
     let mismatch = mismatch_of(first_column(Fault::Mismatch, &[], tags, said))?;

@@ -157,9 +157,7 @@ fn first_indexed(columns: usize, comparisons: &[Comparison]) -> Option<&Comparis
     ensures first { option_copied result ≡ first_indexed columns comparisons.now }
     ensures tag { IfSome result (λ first. columns < first.now.place) }
 {
-    comparisons
-        .iter()
-        .find(|comparison| columns < comparison.place && is_indexed(comparison.op))
+    comparisons.iter().find(|comparison| columns < comparison.place && is_indexed(comparison.op))
 }
 
 // The numbers of all subtables of which a comparison of a tag is true.

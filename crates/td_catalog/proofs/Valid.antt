@@ -1,6 +1,6 @@
 -- A valid catalog stays valid as an entry that can follow it is made.
 use Rattle.std.proofs.Common.{◌≡◌, ℕ, suc, zero, ◌+◌, ◌-◌, ◌<◌, ◌≤◌, nat_eq, Bool, true, false, ◌||◌, not, List, [], ◌∷◌, ◌++◌, map, filter, length, Option, Some, None, All, position, nat_lt, cond, refl, sym, ap, subst, ◌∙◌, arith, length-append, append_assoc, slice_get}
-use Rattle.std.specs.List.{AllZip, list_any, position_or_len}
+use Rattle.std.specs.List.{list_any, position_or_len}
 use Rattle.std.specs.Option.{option_map}
 use Rattle.std.specs.Str.{bytes_eq}
 use Rattle.std.specs.Cmp.Lexicographic.{nat_list_eq_equiv}
@@ -10,16 +10,13 @@ use Rattle.std.proofs.lemmas.List.{map_push}
 use Rattle.std.proofs.lemmas.List.Elements.{All-push, All-weaker}
 use Rattle.std.proofs.lemmas.List.Folds.{list_any-append}
 use Rattle.td_limits.specs.declared.limits.TheConstants.{LAST_STREAM_NUMBER, STREAMS, TABLES}
-use Rattle.td_layer.specs.declared.values.Cell.{Cell}
-use Rattle.td_model.specs.declared.catalog.Column.{Column}
-use Rattle.td_model.specs.declared.catalog.Schema.{Schema}
 use Rattle.td_model.specs.declared.catalog.StableDef.{StableDef}
 use Rattle.td_model.specs.declared.catalog.StreamEntry.{StreamEntry}
 use Rattle.td_model.specs.declared.catalog.TableDef.{TableDef}
 use Rattle.td_model.specs.declared.history.What.{What}
 use Rattle.td_model.specs.declared.history.What.TheVariants as what
 use Rattle.td_model.specs.declared.language.StreamDef.{StreamDef}
-use Rattle.td_model.specs.Catalog.{Catalog, stable_named, table_named, target_named, first_number, stable_at, schema_or_none, with_what}
+use Rattle.td_model.specs.Catalog.{Catalog, first_number, stable_at, schema_or_none, with_what}
 use Rattle.td_verdict.specs.Names.{stands_twice}
 use Rattle.td_verdict.specs.Valid.{AreTags, IsSchema, IsTable, IsTableBy, IsValid, all_names}
 use Rattle.td_catalog.specs.Kept.{IsFree, CanFollow}
@@ -38,8 +35,10 @@ at_end {X} p (x ∷ xs) h = by (p x) (at_end p xs) h
   where
     first_in : (n : ℕ) → nat_lt 0 (suc n) ≡ false → ⊥
     first_in n k = grind (arith, nat_tests)
+
     later_in : (i n : ℕ) → nat_lt (1 + i) (suc n) ≡ false → nat_lt i n ≡ false
     later_in i n k = grind (arith, nat_tests)
+
     by : (b : Bool) → (nat_lt (position_or_len p xs) (length xs) ≡ false → list_any p xs ≡ false) → nat_lt (cond (not b) (1 + position_or_len p xs) 0) (suc (length xs)) ≡ false → (b || list_any p xs) ≡ false
     by true rest k = absurd (first_in (length xs) k)
     by false rest k = rest (later_in (position_or_len p xs) (length xs) k)
@@ -109,7 +108,7 @@ with_stable c s h free schema room =
     let none : list_any (bytes_eq s.name) ((ts ++ ss) ++ gs) ≡ false = ap (list_any (bytes_eq s.name)) (append_assoc ts ss gs) ∙ free_name s.name c free in
     let apart : stands_twice ((ts ++ ss) ++ gs) ≡ false = ap stands_twice (append_assoc ts ss gs) ∙ h.names in
     let names : all_names d ≡ (ts ++ ss) ++ s.name ∷ gs =
-        ap (λ l. ts ++ (l ++ gs)) (map_push stable_name c.stables s) ∙ ap (λ l. ts ++ l) (append_assoc ss (s.name ∷ []) gs) ∙ sym (append_assoc ts ss (s.name ∷ gs)) in
+    ap (λ l. ts ++ (l ++ gs)) (map_push stable_name c.stables s) ∙ ap (λ l. ts ++ l) (append_assoc ss (s.name ∷ []) gs) ∙ sym (append_assoc ts ss (s.name ∷ gs)) in
     record {
       names = ap stands_twice names ∙ apart_among (ts ++ ss) gs s.name none apart;
       stables = All-push (λ (s : StableDef). IsSchema s.schema.columns s.schema.tags) c.stables s h.stables schema;
@@ -146,7 +145,7 @@ with_stream c def h free room next =
     let none : list_any (bytes_eq def.target) (all_names c ++ []) ≡ false = ap (list_any (bytes_eq def.target)) whole ∙ free_name def.target c free in
     let apart : stands_twice (all_names c ++ []) ≡ false = ap stands_twice whole ∙ h.names in
     let names : ts ++ (ss ++ map target_name (c.streams ++ e ∷ [])) ≡ all_names c ++ def.target ∷ [] =
-        ap (λ l. ts ++ (ss ++ l)) (map_push target_name c.streams e) ∙ ap (λ l. ts ++ l) (sym (append_assoc ss gs (def.target ∷ []))) ∙ sym (append_assoc ts (ss ++ gs) (def.target ∷ [])) in
+    ap (λ l. ts ++ (ss ++ l)) (map_push target_name c.streams e) ∙ ap (λ l. ts ++ l) (sym (append_assoc ss gs (def.target ∷ []))) ∙ sym (append_assoc ts (ss ++ gs) (def.target ∷ [])) in
     record {
       names = ap stands_twice names ∙ apart_among (all_names c) [] def.target none apart;
       stables = h.stables;

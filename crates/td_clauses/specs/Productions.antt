@@ -38,7 +38,8 @@ unfoldable pub truth : {E : Type 0} → G E Lit
 truth = either (valued (λ _. lit.True) (word kinds.TRUE refl)) (valued (λ _. lit.False) (word kinds.FALSE refl))
 
 unfoldable pub word_lit : {E : Type 0} → G E Lit
-word_lit = either (valued (λ _. lit.Null) (word kinds.NULL refl)) (either (valued (λ _. lit.Now) (word kinds.NOW refl)) truth)
+word_lit = either (valued (λ _. lit.Null) (word kinds.NULL refl))
+    (either (valued (λ _. lit.Now) (word kinds.NOW refl)) truth)
 
 unfoldable pub a_lit : {E : Type 0} → G E Lit
 a_lit = either (valued lit.Num number) (either (valued lit.Str quoted_text) word_lit)
@@ -64,13 +65,15 @@ compared = either (valued lit.Num number) (either (valued lit.Str quoted_text) t
 unfoldable pub names : {E : Type 0} → G E (List (List ℕ))
 names = comma_list name
 
--- selected := name | TBNAME | _WSTART | _WEND | COUNT ( * ) | func ( name ), where a function's word without ( is a name
+-- selected := name | TBNAME | _WSTART | _WEND | COUNT ( * ) | func ( name ), where a function's word without ( is a
+-- name
 abbrev pub count_word : {E : Type 0} → G E (List ℕ)
 count_word = word_in (only kinds.COUNT) (λ t. word_of t.token) kinds.COUNT refl refl
 
 -- COUNT ( * ) and COUNT ( name )
 unfoldable pub count_argument : {E : Type 0} → G E ItemKind
-count_argument = inside (either (valued (λ _. item_kind.CountAll) (sign kinds.STAR refl)) (valued (λ n. item_kind.Fun func.Count n) name))
+count_argument = inside
+    (either (valued (λ _. item_kind.CountAll) (sign kinds.STAR refl)) (valued (λ n. item_kind.Fun func.Count n) name))
 
 abbrev pub count_or_name : List ℕ → Option ItemKind → ItemKind
 count_or_name name None = item_kind.Col name
@@ -80,7 +83,9 @@ unfoldable pub count_item : {E : Type 0} → G E ItemKind
 count_item = both count_or_name count_word (maybe None Some count_argument)
 
 abbrev pub func_of : ℕ → Func
-func_of k = if k == kinds.SUM then func.Sum else if k == kinds.MIN then func.Min else if k == kinds.MAX then func.Max else if k == kinds.AVG then func.Avg else if k == kinds.FIRST then func.First else if k == kinds.LAST then func.Last else func.Spread
+func_of k = if k == kinds.SUM then func.Sum else if k == kinds.MIN then func.Min else if k == kinds.MAX then func.Max
+    else if k == kinds.AVG then func.Avg else if k == kinds.FIRST then func.First
+    else if k == kinds.LAST then func.Last else func.Spread
 
 abbrev pub function_word : {E : Type 0} → G E (Func × List ℕ)
 function_word = word_in (within kinds.COLUMN_FUNCTIONS) (λ t. (func_of t.kind, word_of t.token)) kinds.SUM refl refl
@@ -93,10 +98,13 @@ unfoldable pub function_item : {E : Type 0} → G E ItemKind
 function_item = both applied function_word (maybe None Some (inside name))
 
 abbrev pub plain_name : {E : Type 0} → G E (List ℕ)
-plain_name = word_in (within kinds.NAMES_BELOW_FUNCTIONS ++ within kinds.NAMES_ABOVE_FUNCTIONS) (λ t. word_of t.token) kinds.PLAIN_WORD refl refl
+plain_name = word_in (within kinds.NAMES_BELOW_FUNCTIONS ++ within kinds.NAMES_ABOVE_FUNCTIONS)
+    (λ t. word_of t.token) kinds.PLAIN_WORD refl refl
 
 unfoldable pub named_item : {E : Type 0} → G E ItemKind
-named_item = either (valued (λ _. item_kind.TbName) (word kinds.TBNAME refl)) (either (valued (λ _. item_kind.WStart) (word kinds.WSTART refl)) (either (valued (λ _. item_kind.WEnd) (word kinds.WEND refl)) (valued item_kind.Col plain_name)))
+named_item = either (valued (λ _. item_kind.TbName) (word kinds.TBNAME refl))
+    (either (valued (λ _. item_kind.WStart) (word kinds.WSTART refl))
+    (either (valued (λ _. item_kind.WEnd) (word kinds.WEND refl)) (valued item_kind.Col plain_name)))
 
 unfoldable pub selected : {E : Type 0} → G E ItemKind
 selected = either count_item (either function_item named_item)
@@ -129,10 +137,13 @@ part_list = comma_list part
 
 -- op := < | <= | > | >= | = | <> | !=
 abbrev pub op_of : ℕ → Op
-op_of k = if k == kinds.LESS then op.Lt else if k == kinds.MORE then op.Gt else if k == kinds.EQUAL then op.Eq else if k == kinds.AT_MOST then op.Le else if k == kinds.AT_LEAST then op.Ge else op.Ne
+op_of k = if k == kinds.LESS then op.Lt else if k == kinds.MORE then op.Gt else if k == kinds.EQUAL then op.Eq
+    else if k == kinds.AT_MOST then op.Le else if k == kinds.AT_LEAST then op.Ge else op.Ne
 
 abbrev pub comparison : {E : Type 0} → G E Op
-comparison = token (within kinds.COMPARISONS) (λ _ _. true) (λ t. op_of t.kind) (λ _. record { kind = kinds.LESS; token = Sym (first_byte (codes "<")) }) (λ _. refl) (λ _. (refl, codes "<", (refl, refl)))
+comparison = token (within kinds.COMPARISONS) (λ _ _. true) (λ t. op_of t.kind)
+    (λ _. record { kind = kinds.LESS; token = Sym (first_byte (codes "<")) }) (λ _. refl)
+    (λ _. (refl, codes "<", (refl, refl)))
 
 -- cond := part op lit2 | part BETWEEN lit2 AND lit2 | part IS [ NOT ] NULL
 unfoldable pub compares : {E : Type 0} → G E Test
@@ -142,7 +153,8 @@ unfoldable pub between : {E : Type 0} → G E Test
 between = word kinds.BETWEEN refl ▷ both test.Between compared (word kinds.AND refl ▷ compared)
 
 unfoldable pub null_test : {E : Type 0} → G E Test
-null_test = word kinds.IS refl ▷ both (λ o _. test.Is o lit.Null) (maybe op.IsNull (λ _. op.NotNull) (word kinds.NOT refl)) (word kinds.NULL refl)
+null_test = word kinds.IS refl ▷ both (λ o _. test.Is o lit.Null)
+    (maybe op.IsNull (λ _. op.NotNull) (word kinds.NOT refl)) (word kinds.NULL refl)
 
 unfoldable pub a_test : {E : Type 0} → G E Test
 a_test = either between (either null_test compares)
@@ -181,7 +193,8 @@ unfoldable pub lengths : {E : Type 0} → G E (ℕ × ℕ)
 lengths = inside (both (λ len offset. (len, offset)) duration (maybe 0 (λ d. d) (sign kinds.COMMA refl ▷ duration)))
 
 unfoldable pub interval : {E : Type 0} → G E WindowDef
-interval = word kinds.INTERVAL refl ▷ both (λ (l : ℕ × ℕ) s. window_def.Interval l.0 l.1 (slide_or l.0 s)) lengths (maybe None Some (word kinds.SLIDING refl ▷ inside duration))
+interval = word kinds.INTERVAL refl ▷ both (λ (l : ℕ × ℕ) s. window_def.Interval l.0 l.1 (slide_or l.0 s)) lengths
+    (maybe None Some (word kinds.SLIDING refl ▷ inside duration))
 
 unfoldable pub session : {E : Type 0} → G E WindowDef
 session = word kinds.SESSION refl ▷ inside (both window_def.Session name (sign kinds.COMMA refl ▷ duration))
@@ -200,26 +213,44 @@ unfoldable pub order_name : {E : Type 0} → G E (List ℕ)
 order_name = either (valued (λ _. codes "_wstart") (word kinds.WSTART refl)) name
 
 unfoldable pub direction : {E : Type 0} → G E Bool
-direction = maybe false (λ d. d) (either (valued (λ _. false) (word kinds.ASC refl)) (valued (λ _. true) (word kinds.DESC refl)))
+direction = maybe false (λ d. d)
+    (either (valued (λ _. false) (word kinds.ASC refl)) (valued (λ _. true) (word kinds.DESC refl)))
 
 abbrev pub order_of : List ℕ → Bool → OrderBy
 order_of n true = order_by.Desc n
 order_of n false = order_by.Asc n
 
 unfoldable pub order_part : {E : Type 0} → G E OrderBy
-order_part = maybe order_by.Plain (λ o. o) (word kinds.ORDER refl ▷ word kinds.BY refl ▷ both order_of order_name direction)
+order_part = maybe order_by.Plain (λ o. o)
+    (word kinds.ORDER refl ▷ word kinds.BY refl ▷ both order_of order_name direction)
 
 -- LIMIT Num [ OFFSET Num ]
 unfoldable pub cut_part : {E : Type 0} → G E Cut
-cut_part = maybe (record { limit = None; skip = pos 0 }) (λ c. c) (word kinds.LIMIT refl ▷ both (λ n s. record { limit = Some n; skip = s }) number (maybe (pos 0) (λ s. s) (word kinds.OFFSET refl ▷ number)))
+cut_part = maybe (record { limit = None; skip = pos 0 }) (λ c. c)
+    (word kinds.LIMIT refl ▷ both (λ n s. record { limit = Some n; skip = s }) number
+    (maybe (pos 0) (λ s. s) (word kinds.OFFSET refl ▷ number)))
 
 -- query := SELECT items FROM name [ WHERE .. ] [ PARTITION BY .. ] [ window ] [ ORDER BY .. ] [ LIMIT .. ]
 unfoldable pub clauses : {E : Type 0} → G E Clauses
-clauses = both (λ c (r : List PartBy × (WindowDef × (OrderBy × Cut))). record { conds = c; parts = r.0; window = r.1.0; order = r.1.1.0; cut = r.1.1.1 })
-    where_part (both (λ p r. (p, r)) partition_part (both (λ w r. (w, r)) window_part (both (λ o c. (o, c)) order_part cut_part)))
+clauses = both (λ c (r : List PartBy × (WindowDef × (OrderBy × Cut))).
+    record { conds = c; parts = r.0; window = r.1.0; order = r.1.1.0; cut = r.1.1.1 })
+    where_part (both (λ p r. (p, r)) partition_part
+    (both (λ w r. (w, r)) window_part (both (λ o c. (o, c)) order_part cut_part)))
 
 abbrev pub query_of : Bool × List Item → List ℕ → Clauses → Query
-query_of i source c = record { star = i.0; items = i.1; source = source; conds = c.conds; parts = c.parts; window = c.window; order = c.order; skip = c.cut.skip; limit = c.cut.limit }
+query_of i source c =
+    record {
+      star = i.0;
+      items = i.1;
+      source = source;
+      conds = c.conds;
+      parts = c.parts;
+      window = c.window;
+      order = c.order;
+      skip = c.cut.skip;
+      limit = c.cut.limit;
+    }
 
 unfoldable pub query : {E : Type 0} → G E Query
-query = word kinds.SELECT refl ▷ both (λ i (r : List ℕ × Clauses). query_of i r.0 r.1) items (word kinds.FROM refl ▷ both (λ s c. (s, c)) name clauses)
+query = word kinds.SELECT refl ▷ both (λ i (r : List ℕ × Clauses). query_of i r.0 r.1) items
+    (word kinds.FROM refl ▷ both (λ s c. (s, c)) name clauses)

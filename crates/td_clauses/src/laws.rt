@@ -8,5 +8,7 @@ ghost use Rattle.td_clauses.specs.Written.{written_query};
 
 /// The grammar by which queries are read derives exactly the trees of the grammar as it is written.
 pub fn query_as_it_is_written()
-    ensures { (ts : List Lexeme) (tree : Query) → (Derives (tt {0}) written_query ts tree → Derives (tt {0}) query ts tree) × (Derives (tt {0}) query ts tree → Derives (tt {0}) written_query ts tree) }
+    ensures { (ts : List Lexeme) (tree : Query) →
+        (Derives (tt {0}) written_query ts tree → Derives (tt {0}) query ts tree) ×
+        (Derives (tt {0}) query ts tree → Derives (tt {0}) written_query ts tree) }
 {}

@@ -1,9 +1,9 @@
 //! [text] Clauses of queries: names, literals, items, conditions, windows.
 //!
-//! Each production of a clause is a grammar, given as data (`specs/Productions`, one production a line), and each function
-//! reads one production: it gives what `td_grammar`'s reader gives for it, which is exactly the grammar's tree and what
-//! follows it, or the first token that no text of it continues with. What the crates above read by these functions is whole
-//! queries, lists of names and of literals, and the bounds of a range.
+//! Each production of a clause is a grammar, given as data (`specs/Productions`, one production a line), and each
+//! function reads one production: it gives what `td_grammar`'s reader gives for it, which is exactly the grammar's
+//! tree and what follows it, or the first token that no text of it continues with. What the crates above read by
+//! these functions is whole queries, lists of names and of literals, and the bounds of a range.
 //!
 //! The grammar of queries as the language's description writes it, each condition and item whole, is stated beside
 //! (`specs/Written`), and both derive the same trees (`query_as_it_is_written`).

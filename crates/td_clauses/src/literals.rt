@@ -107,8 +107,8 @@ impl Listed for Literals {
     }
 }
 
-/// Literals, parted by commas: at least one. It takes memory for their texts and the list; it fails at the first token that
-/// no list of literals continues with.
+/// Literals, parted by commas: at least one. It takes memory for their texts and the list; it fails at the first
+/// token that no list of literals continues with.
 #[tactic(auto, unfolding(crate::specs::Productions::lits))]
 pub fn literal_list(alloc: Global, tokens: &[Lexeme]) -> Result<(Seq<Lit>, &[Lexeme]), Fault>
     ensures { Gives (λ x. (x.0, x.1.now)) result (read (tt {0}) prod_lits tokens.now) }
@@ -134,8 +134,8 @@ impl Listed for Names {
     }
 }
 
-/// Names, parted by commas: at least one. It takes memory for them and the list; it fails at the first token that no list of
-/// names continues with.
+/// Names, parted by commas: at least one. It takes memory for them and the list; it fails at the first token that no
+/// list of names continues with.
 #[tactic(auto, unfolding(crate::specs::Productions::names))]
 pub fn name_list(alloc: Global, tokens: &[Lexeme]) -> Result<(Seq<Name>, &[Lexeme]), Fault>
     ensures { Gives (λ x. (x.0, x.1.now)) result (read (tt {0}) prod_names tokens.now) }

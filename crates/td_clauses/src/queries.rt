@@ -246,8 +246,8 @@ fn query_of(items: (bool, Seq<Item>), source: Name, clauses: Clauses) -> Query
     }
 }
 
-/// A query, from its SELECT to its last clause. It takes memory for names, texts and lists; it fails at the first token that no
-/// query continues with.
+/// A query, from its SELECT to its last clause. It takes memory for names, texts and lists; it fails at the first
+/// token that no query continues with.
 #[tactic(auto, using(td_grammar::proofs::Forms::value_itself), unfolding(crate::specs::Productions::query))]
 pub fn query(alloc: Global, tokens: &[Lexeme]) -> Result<(Query, &[Lexeme]), Fault>
     ensures { Gives (λ x. (x.0, x.1.now)) result (read (tt {0}) prod_query tokens.now) }

@@ -1,22 +1,20 @@
 -- Whether a plan is of a table, read off its first name.
-use Rattle.std.proofs.Common.{◌≡◌, ℕ, suc, zero, ◌+◌, ◌-◌, ◌<◌, ◌≤◌, ◌==◌, nat_lt, nat_eq, Bool, true, false, ◌||◌, not, cond, List, [], ◌∷◌, length, map, filter, slice_get, get_or, Option, Some, None, is_some, inl, inr, position, refl, sym, ap, subst, ◌∙◌, arith, true≢false}
+use Rattle.std.proofs.Common.{◌≡◌, ℕ, suc, zero, ◌+◌, ◌==◌, nat_lt, Bool, true, false, ◌||◌, not, cond, List, [], ◌∷◌, length, map, filter, slice_get, get_or, Option, Some, None, is_some, inl, inr, refl, sym, ap, ◌∙◌, arith}
 use Rattle.std.specs.List.{list_any, position_or_len}
 use Rattle.std.specs.Option.{option_map}
-use Rattle.std.specs.Result.{IfOk}
 use Rattle.std.specs.Str.{bytes_eq}
 use Rattle.std.proofs.lemmas.Bool.{or_parts}
 use Rattle.std.proofs.lemmas.Bool.Decides.{nat_tests}
 use Rattle.std.proofs.lemmas.List.Quantifiers.{position-Some}
-use Rattle.std.proofs.lemmas.Option.{same_Some, slice_get_cases, get_or_from_slice_get}
+use Rattle.std.proofs.lemmas.Option.{same_Some, slice_get_cases}
 use Rattle.td_model.specs.declared.catalog.TableDef.{TableDef}
 use Rattle.td_model.specs.declared.language.Query.{Query}
 use Rattle.td_model.specs.declared.plan.Plan.{Plan}
 use Rattle.td_model.specs.Catalog.{Catalog, table_named, stable_named}
 use Rattle.td_verdict.specs.declared.comparison.Comparison.{Comparison}
-use Rattle.td_verdict.specs.declared.source.Source.{Source}
 use Rattle.td_verdict.specs.Fields.{comparisons_of}
-use Rattle.td_verdict.specs.Queries.{source_by, source_of, source_schema}
-use Rattle.td_verdict.specs.Plans.{Numbered, numbered, all_tables, is_read, planned, plan_of, is_of_table, reads_one}
+use Rattle.td_verdict.specs.Queries.{source_by, source_schema}
+use Rattle.td_verdict.specs.Plans.{Numbered, numbered, is_read, planned, plan_of, is_of_table, reads_one}
 use Rattle.td_verdict.specs.Answers.{reads_table, header_over, header}
 
 names : List Numbered → List (List ℕ)

@@ -1,18 +1,15 @@
 -- What is read off what a literal says is what the literal gives.
-use Rattle.std.proofs.Common.{◌≡◌, ℕ, ℤ, Bool, true, false, ◌&&◌, ◌||◌, cond, nat_le, List, length, Option, Some, None, is_some, Result, Ok, Err, refl, sym, ap, ◌∙◌}
+use Rattle.std.proofs.Common.{◌≡◌, ℕ, ℤ, Bool, true, false, ◌&&◌, ◌||◌, cond, nat_le, List, length, Option, Some, None, is_some, refl, sym, ap, ◌∙◌}
 use Rattle.std.specs.Option.{option_map_or, unwrap_or}
-use Rattle.std.specs.Result.{IfOk}
 use Rattle.td_cols.specs.declared.kinds.Kind.{Kind}
 use Rattle.td_cols.specs.declared.kinds.Kind.TheVariants as kind
 use Rattle.td_cols.specs.Kinds.{is_in_range}
-use Rattle.td_layer.specs.declared.values.Cell.{Cell}
 use Rattle.td_layer.specs.declared.values.Cell.TheVariants as cell
 use Rattle.td_model.specs.declared.language.Lit.{Lit}
 use Rattle.td_model.specs.declared.language.Lit.TheVariants as lit
 use Rattle.td_times.specs.Stamps.{timestamp_of}
 use Rattle.td_verdict.specs.Names.{is_time}
-use Rattle.td_verdict.specs.Values.{is_truth, is_text, width_of, number_at, text_at, is_null, suits, fits, number_fits, text_fits, value_of, value_or_null, number_cell, tag_from, tag_of}
-use Rattle.td_fields.specs.declared.literals.Said.{Said}
+use Rattle.td_verdict.specs.Values.{is_truth, is_text, width_of, number_at, text_at, is_null, suits, fits, value_of, value_or_null, tag_from, tag_of}
 use Rattle.td_fields.specs.declared.literals.Said.TheVariants as said
 use Rattle.td_fields.specs.Said.{said_from, said_at, is_suited, is_null_said, is_fit, number_said, value_said, text_cell, cell_from}
 
@@ -82,6 +79,7 @@ one_kind k moment l n h = by k l h
     time_text kind.Time text h = refl
     time_text kind.Wide text h = refl
     time_text (kind.Text w) text h = absurd (cc)
+
     now_text : (k : Kind) (m : ℤ) → cond (is_time k) (Some m) None ≡ Some n → is_text k ≡ false
     now_text kind.Bool m h = refl
     now_text kind.I8 m h = refl
@@ -95,6 +93,7 @@ one_kind k moment l n h = by k l h
     now_text kind.Time m h = refl
     now_text kind.Wide m h = refl
     now_text (kind.Text w) m h = absurd (cc)
+
     truth_text : (k : Kind) (m : ℤ) → cond (is_truth k) (Some m) None ≡ Some n → is_text k ≡ false
     truth_text kind.Bool m h = refl
     truth_text kind.I8 m h = refl
@@ -108,9 +107,11 @@ one_kind k moment l n h = by k l h
     truth_text kind.Time m h = refl
     truth_text kind.Wide m h = refl
     truth_text (kind.Text w) m h = absurd (cc)
+
     plain_text : (b : Bool) (m : ℤ) → cond b None (Some m) ≡ Some n → b ≡ false
     plain_text true m h = absurd (cc)
     plain_text false m h = refl
+
     by : (k : Kind) (l : Lit) → number_at k moment l ≡ Some n → is_text k ≡ false
     by k lit.Null h = absurd (cc)
     by k lit.True h = truth_text k _ h

@@ -12,8 +12,8 @@ ghost use Rattle.td_verdict.specs.Answers.{places_from, star_fields, item_place,
 use crate::literals::{number_at, text_at};
 use crate::names::{column_named, place_of, same};
 use std::alloc::Global;
-use td_limits::NAME_BYTES;
 use td_layer::{Cell, Copied, Name, NoMem, Seq};
+use td_limits::NAME_BYTES;
 use td_model::{Column, Cond, Item, ItemKind, Kind, Lit, PartBy, Plan, Query, Schema};
 use td_verdict::Comparison;
 

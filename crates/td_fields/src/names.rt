@@ -6,8 +6,8 @@ ghost use Rattle.td_verdict.specs.Names.{is_first, is_named, is_time, lacks_time
 ghost use Rattle.td_verdict.specs.Values.{width_of, has_width};
 ghost use Rattle.td_verdict.specs.Writes.{place_of};
 
-use td_limits::TAG_BYTES;
 use td_layer::{Copied, Name, NoMem, Seq};
+use td_limits::TAG_BYTES;
 use td_model::{Column, Kind};
 
 /// Whether two names are one.

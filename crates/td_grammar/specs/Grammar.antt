@@ -41,12 +41,12 @@ all_real (t ∷ ts) = real t × all_real ts
 
 -- A grammar. Each text of it has a value of A. What is in force, of E, may narrow its tokens.
 -- token: one token of these kinds that passes the test; the fourth is a sample that does, and that a text spells
--- valued: its value changed. both: one text after the other. under: the same, with the first one's value in force in the second
--- maybe: a text or none. either: one of two
--- loop: any number of texts, from a state that each of them changes; the test says
--- which token may begin a text in a state
+-- valued: its value changed. both: one text after the other. under: the same, with the first one's value in force in
+-- the second maybe: a text or none. either: one of two loop: any number of texts, from a state that each of them
+-- changes; the test says which token may begin a text in a state
 pub data G : Type 0 → Type 0 → Type 1 where
-  token : {E A : Type 0} (s : Kinds) (p : E → Lexeme → Bool) → (Lexeme → A) → (w : E → Lexeme) → ((e : E) → fits s (p e) (w e) ≡ true) → ((e : E) → real (w e)) → G E A
+  token : {E A : Type 0} (s : Kinds) (p : E → Lexeme → Bool) → (Lexeme → A) → (w : E → Lexeme) →
+      ((e : E) → fits s (p e) (w e) ≡ true) → ((e : E) → real (w e)) → G E A
   valued : {E A B : Type 0} → (A → B) → G E A → G E B
   both : {E A B C : Type 0} → (A → B → C) → G E A → G E B → G E C
   under : {E A B C : Type 0} → (A → B → C) → G E A → G A B → G E C
@@ -60,19 +60,24 @@ begun p [] = false
 begun p (t ∷ ts) = p t
 
 -- texts of these values, one after the other, from one state to another
-abbrev pub Passes : {S A : Type 0} → (S → List Lexeme → A → Type 0) → (S → Lexeme → Bool) → (S → A → S) → List A → S → List Lexeme → S → Type 0
+abbrev pub Passes : {S A : Type 0} → (S → List Lexeme → A → Type 0) → (S → Lexeme → Bool) → (S → A → S) → List A → S
+    → List Lexeme → S → Type 0
 Passes D ok next [] s ts end = (ts ≡ []) × (end ≡ s)
-Passes D ok next (a ∷ more) s ts end = (x y : List Lexeme) × (ts ≡ x ++ y) × D s x a × (begun (ok s) x ≡ true) × Passes D ok next more (next s a) y end
+Passes D ok next (a ∷ more) s ts end = (x y : List Lexeme) × (ts ≡ x ++ y) × D s x a × (begun (ok s) x ≡ true)
+    × Passes D ok next more (next s a) y end
 
 -- The text is one of the grammar, with this value.
 abbrev pub Derives : {E A : Type 0} → E → G E A → List Lexeme → A → Type 0
 Derives e (token s p v w h r) ts a = (t : Lexeme) × (ts ≡ t ∷ []) × (fits s (p e) t ≡ true) × (a ≡ v t)
 Derives e (valued {E} {A} k g) ts c = (a : A) × Derives e g ts a × (c ≡ k a)
-Derives e (both {E} {A} {B} k g h) ts c = (x y : List Lexeme) × (a : A) × (b : B) × (ts ≡ x ++ y) × Derives e g x a × Derives e h y b × (c ≡ k a b)
-Derives e (under {E} {A} {B} k g h) ts c = (x y : List Lexeme) × (a : A) × (b : B) × (ts ≡ x ++ y) × Derives e g x a × Derives a h y b × (c ≡ k a b)
+Derives e (both {E} {A} {B} k g h) ts c = (x y : List Lexeme) × (a : A) × (b : B) × (ts ≡ x ++ y) × Derives e g x a
+    × Derives e h y b × (c ≡ k a b)
+Derives e (under {E} {A} {B} k g h) ts c = (x y : List Lexeme) × (a : A) × (b : B) × (ts ≡ x ++ y) × Derives e g x a
+    × Derives a h y b × (c ≡ k a b)
 Derives e (maybe {E} {A} d k g) ts c = ((a : A) × Derives e g ts a × (c ≡ k a)) ⊎ ((ts ≡ []) × (c ≡ d))
 Derives e (either g h) ts a = Derives e g ts a ⊎ Derives e h ts a
-Derives e (loop {E} {S} {A} s ok next g) ts end = (each : List A) × Passes (λ now x a. Derives e g x a) ok next each s ts end
+Derives e (loop {E} {S} {A} s ok next g) ts end = (each : List A) × Passes
+    (λ now x a. Derives e g x a) ok next each s ts end
 
 -- some text begins so
 abbrev pub Begins : {A : Type 0} → (List Lexeme → A → Type 0) → List Lexeme → Type 0
@@ -83,9 +88,11 @@ abbrev pub Ends : {A : Type 0} → (List Lexeme → A → Type 0) → List Lexem
 Ends {A} D front [] = (a : A) → D front a → ⊥
 Ends D front (t ∷ rest) = Begins D (front ++ t ∷ []) → ⊥
 
--- The first failure: some text begins with what stands before it, and none with the token too. So many tokens are left there.
+-- The first failure: some text begins with what stands before it, and none with the token too. So many tokens are
+-- left there.
 abbrev pub FailsAt : {A : Type 0} → (List Lexeme → A → Type 0) → List Lexeme → ℕ → Type 0
-FailsAt D ts left = (front rest : List Lexeme) × (ts ≡ front ++ rest) × (left ≡ length rest) × Begins D front × Ends D front rest
+FailsAt D ts left = (front rest : List Lexeme) × (ts ≡ front ++ rest) × (left ≡ length rest) × Begins D front
+    × Ends D front rest
 
 -- Reading from left to right: the value and what follows it, or how many tokens there are from the failure on.
 abbrev pub Reading : Type 0 → Type 0
@@ -106,9 +113,12 @@ abbrev pub one : {A : Type 0} → (Lexeme → Bool) → (Lexeme → A) → List 
 one p v [] = Err 0
 one p v (t ∷ ts) = if p t then Ok (v t, ts) else Err (length (t ∷ ts))
 
-abbrev pub looped : {S A : Type 0} → Kinds → (S → Lexeme → Bool) → (S → A → S) → (S → List Lexeme → Reading A) → ℕ → S → List Lexeme → Reading S
+abbrev pub looped : {S A : Type 0} → Kinds → (S → Lexeme → Bool) → (S → A → S) → (S → List Lexeme → Reading A) → ℕ → S
+    → List Lexeme → Reading S
 looped f ok next p zero s ts = Ok (s, ts)
-looped f ok next p (suc n) s ts = if starts f ts then (if begun (ok s) ts then (p s ts >>= λ x. looped f ok next p n (next s x.0) x.1) else Err (length ts)) else Ok (s, ts)
+looped f ok next p (suc n) s ts = if starts f ts then
+    (if begun (ok s) ts then (p s ts >>= λ x. looped f ok next p n (next s x.0) x.1) else Err (length ts)) else Ok
+    (s, ts)
 
 -- the empty text is one of it
 abbrev pub nullable : {E A : Type 0} → G E A → Bool

@@ -18,22 +18,39 @@ pub both_true : (a b : Bool) → a ≡ true → b ≡ true → (a && b) ≡ true
 both_true a b h i = ap (λ c. c && b) h ∙ i
 
 pub zero_text : IsToken (codes "0") (Num (pos 0))
-zero_text = ((ltb-true 0 1 refl, (ltb-true 0 10 refl, tt)), refl, fits_signed_from_abs w128 (pos 0) (ltb-true 0 (2 ^ 127) refl))
+zero_text = (
+  (ltb-true 0 1 refl, (ltb-true 0 10 refl, tt)),
+  refl,
+  fits_signed_from_abs w128 (pos 0)
+      (ltb-true 0 (2 ^ 127) refl),
+)
 
 pub second_text : IsToken (codes "1s") (Dur 1 115)
-second_text = (49 ∷ [], 115, (refl, (ltb-true 0 1 refl, (ltb-true 1 10 refl, tt)), refl), refl, ltb-true 1 (2 ^ 63) refl, refl)
+second_text = (
+  49 ∷ [],
+  115,
+  (refl, (ltb-true 0 1 refl, (ltb-true 1 10 refl, tt)), refl),
+  refl,
+  ltb-true 1
+      (2 ^ 63) refl,
+  refl,
+)
 
 pub empty_text : IsToken (codes "''") (Str [])
 empty_text = (39, refl, refl, refl, IsUtf8-nil)
 
-folded_bytes : (text : List ℕ) → list_all is_folded text ≡ true → (list_all is_word_byte text ≡ true) × (text ≡ map to_ascii_lowercase text)
+folded_bytes : (text : List ℕ) → list_all is_folded text ≡ true → (list_all is_word_byte text ≡ true) ×
+    (text ≡ map to_ascii_lowercase text)
 folded_bytes [] h = (refl, refl)
 folded_bytes (b ∷ bs) h =
     let p = and_parts (is_folded b) (list_all is_folded bs) h in
     let q = and_parts (is_word_byte b) (to_ascii_lowercase b == b) p.0 in
     let deeper = folded_bytes bs p.1 in
-    let same : to_ascii_lowercase b ≡ b = eqb-true (to_ascii_lowercase b) b q.1 in
-    (both_true (is_word_byte b) (list_all is_word_byte bs) q.0 deeper.0, ap (λ c. c ∷ bs) (sym same) ∙ ap (λ cs. to_ascii_lowercase b ∷ cs) deeper.1)
+    let same : to_ascii_lowercase b ≡ b = eqb-true (to_ascii_lowercase b) b q.1 in (
+      both_true (is_word_byte b) (list_all is_word_byte bs) q.0 deeper.0,
+      ap (λ c. c ∷ bs) (sym same) ∙ ap
+          (λ cs. to_ascii_lowercase b ∷ cs) deeper.1,
+    )
 
 begun_word : (text : List ℕ) → begins_word text ≡ true → list_all is_word_byte text ≡ true → IsWord text
 begun_word [] h all = absurd (false≢true h)
@@ -48,14 +65,20 @@ word_text text h =
 
 -- a name is a word's text
 pub name_text : (text : List ℕ) → IsToken (as_name text) (Word (as_name text))
-name_text text = elim (is_name text) as (λ n. is_name text ≡ n → IsToken (cond n text (codes "x")) (Word (cond n text (codes "x")))) [
-  | true ↦ λ is. word_text text (and_parts (is_word text) (nat_le NAMES.low (kind_of_word text) && nat_le (kind_of_word text) NAMES.high) is).0
-  | false ↦ λ _. ((refl, refl), refl)
-] refl
+name_text text = elim (is_name text) as
+    (λ n. is_name text ≡ n → IsToken (cond n text (codes "x")) (Word (cond n text (codes "x")))) [
+      | true ↦ λ is. word_text text
+          (and_parts (is_word text)
+          (nat_le NAMES.low (kind_of_word text) && nat_le (kind_of_word text) NAMES.high) is).0
+      | false ↦ λ _. ((refl, refl), refl)
+    ] refl
 
 -- and its kind is one of the names'
 pub name_kind : (text : List ℕ) → has (kind_of_word (as_name text)) (within NAMES) ≡ true
-name_kind text = elim (is_name text) as (λ n. is_name text ≡ n → has (kind_of_word (cond n text (codes "x"))) (within NAMES) ≡ true) [
-  | true ↦ λ is. ap (λ b. b || false) (and_parts (is_word text) (nat_le NAMES.low (kind_of_word text) && nat_le (kind_of_word text) NAMES.high) is).1
-  | false ↦ λ _. refl
-] refl
+name_kind text = elim (is_name text) as
+    (λ n. is_name text ≡ n → has (kind_of_word (cond n text (codes "x"))) (within NAMES) ≡ true) [
+      | true ↦ λ is. ap (λ b. b || false)
+          (and_parts (is_word text)
+          (nat_le NAMES.low (kind_of_word text) && nat_le (kind_of_word text) NAMES.high) is).1
+      | false ↦ λ _. refl
+    ] refl

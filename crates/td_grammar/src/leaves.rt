@@ -222,7 +222,8 @@ fn as_name(text: &[u8]) -> &[u8]
     if is_name(text) { text } else { b"x" }
 }
 
-/// What follows the name in force. Of bytes that are no name it is `x`, as the definition has it; a name that was read is one.
+/// What follows the name in force. Of bytes that are no name it is `x`, as the definition has it; a name that was
+/// read is one.
 #[tactic(auto, using(crate::proofs::Forms::one_tested))]
 pub fn same_name<'a>(
     alloc: Global,

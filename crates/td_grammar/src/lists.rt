@@ -35,8 +35,8 @@ fn further_item<L: Listed>(alloc: Global, tokens: &[Lexeme]) -> Result<(L::Item,
     Ok((item, rest))
 }
 
-/// Items that commas part: at least one. It takes memory for the list, beside what the items take; it fails at the first
-/// token that no list of such items continues with.
+/// Items that commas part: at least one. It takes memory for the list, beside what the items take; it fails at the
+/// first token that no list of such items continues with.
 pub fn comma_list<L: Listed>(
     alloc: Global,
     tokens: &[Lexeme],

@@ -9,7 +9,8 @@ use Rattle.td_lex.specs.Tokens.{IsToken, Reads, IsTokens, NoToken, WideFirst}
 -- From a place on the spans are in order and within the text, and each is the text of its token.
 abbrev pub AreSpans : List ℕ → ℕ → List Spanned → Type 0
 AreSpans text from [] = Unit {0}
-AreSpans text from (t ∷ ts) = (from ≤ t.at) × (t.at < t.end) × (t.end ≤ length text) × IsToken (slice_range text t.at t.end) t.token × AreSpans text t.end ts
+AreSpans text from (t ∷ ts) = (from ≤ t.at) × (t.at < t.end) × (t.end ≤ length text) × IsToken
+    (slice_range text t.at t.end) t.token × AreSpans text t.end ts
 
 -- one token, of a text of this length
 abbrev pub alone : Token → ℕ → List Spanned

@@ -33,11 +33,16 @@ ends (b ∷ bs) = not (is_word_byte b)
 
 -- the longest front of letters, digits and `_`
 unfoldable pub word_of : List ℕ → Reading
-word_of text = Ok (Word (map to_ascii_lowercase (take (prefix_len is_word_byte text) text)), drop (prefix_len is_word_byte text) text)
+word_of text = Ok (
+  Word (map to_ascii_lowercase (take (prefix_len is_word_byte text) text)),
+  drop
+      (prefix_len is_word_byte text) text,
+)
 
 -- the number that a sign and digits are
 unfoldable pub whole_of : List ℕ → List ℕ → Reading
-whole_of front after = if nat_lt (mag (signed_digits_value 10 front)) (2 ^ 127) then Ok (Num (signed_digits_value 10 front), after) else Err Wide
+whole_of front after = if nat_lt (mag (signed_digits_value 10 front)) (2 ^ 127) then Ok
+    (Num (signed_digits_value 10 front), after) else Err Wide
 
 -- how many units the digits say
 abbrev pub count_of : List ℕ → Result ℕ Stop

@@ -37,7 +37,8 @@ is_text_byte b = nat_le 32 b && not (b == 127)
 
 -- one of a b d h m n s u w y, in either case
 abbrev pub is_small_unit : ℕ → Bool
-is_small_unit b = (b == 97) || (b == 98) || (b == 100) || (b == 104) || (b == 109) || (b == 110) || (b == 115) || (b == 117) || (b == 119) || (b == 121)
+is_small_unit b = (b == 97) || (b == 98) || (b == 100) || (b == 104) || (b == 109) || (b == 110) || (b == 115) ||
+    (b == 117) || (b == 119) || (b == 121)
 
 abbrev pub is_unit : ℕ → Bool
 is_unit b = is_small_unit (to_ascii_lowercase b)
@@ -84,8 +85,10 @@ quoted quote content = quote ∷ (doubled quote content ++ quote ∷ [])
 abbrev pub IsToken : List ℕ → Token → Type 0
 IsToken text (Word name) = IsWord text × (name ≡ map to_ascii_lowercase text)
 IsToken text (Num n) = IsNumber text × (n ≡ signed_digits_value 10 text) × FitsSigned w128 n
-IsToken text (Dur count unit) = (digits : List ℕ) × (letter : ℕ) × IsDuration text digits letter × (count ≡ digits_value 10 digits) × (count < 2 ^ 63) × (unit ≡ to_ascii_lowercase letter)
-IsToken text (Str content) = (quote : ℕ) × (is_quote quote ≡ true) × (text ≡ quoted quote content) × (list_all is_text_byte content ≡ true) × IsUtf8 content
+IsToken text (Dur count unit) = (digits : List ℕ) × (letter : ℕ) × IsDuration text digits letter ×
+    (count ≡ digits_value 10 digits) × (count < 2 ^ 63) × (unit ≡ to_ascii_lowercase letter)
+IsToken text (Str content) = (quote : ℕ) × (is_quote quote ≡ true) × (text ≡ quoted quote content) ×
+    (list_all is_text_byte content ≡ true) × IsUtf8 content
 IsToken text (Sym b) = (text ≡ b ∷ []) × (is_symbol b ≡ true)
 IsToken text Le = text ≡ 60 ∷ 61 ∷ []
 IsToken text Ge = text ≡ 62 ∷ 61 ∷ []
@@ -116,12 +119,14 @@ Stands token text word after = (text ≡ word ++ after) × IsToken word token ×
 abbrev pub StandsWide : List ℕ → List ℕ → List ℕ → Type 0
 StandsWide text word after = (text ≡ word ++ after) × IsWide word × BeginsNot is_word_byte after
 
--- From a place on, the text is these tokens, parted by blanks, and then the rest. A token's span is from its first byte to
--- behind its last.
+-- From a place on, the text is these tokens, parted by blanks, and then the rest. A token's span is from its first
+-- byte to behind its last.
 abbrev pub Reads : ℕ → List ℕ → List Spanned → List ℕ → Type 0
 Reads at text [] rest = (gap : List ℕ) × (list_all is_blank gap ≡ true) × (text ≡ gap ++ rest)
-Reads at text (t ∷ ts) rest = (gap : List ℕ) × (word : List ℕ) × (after : List ℕ) × (list_all is_blank gap ≡ true) × (text ≡ gap ++ (word ++ after))
-    × Stands t.token (word ++ after) word after × (t.at ≡ at + length gap) × (t.end ≡ t.at + length word) × Reads t.end after ts rest
+Reads at text (t ∷ ts) rest = (gap : List ℕ) × (word : List ℕ) × (after : List ℕ) × (list_all is_blank gap ≡ true) ×
+    (text ≡ gap ++ (word ++ after))
+    × Stands t.token (word ++ after) word after × (t.at ≡ at + length gap) × (t.end ≡ t.at + length word)
+    × Reads t.end after ts rest
 
 -- the whole text is these tokens
 abbrev pub IsTokens : List ℕ → List Spanned → Type 0
@@ -140,7 +145,8 @@ WideFirst text = (word : List ℕ) × (after : List ℕ) × StandsWide text word
 
 -- up to a place the text is tokens and blanks, and what stands there fails in this way
 abbrev pub FailsAt : (List ℕ → Type 0) → List ℕ → ℕ → Type 0
-FailsAt F text at = (ts : List Spanned) × (rest : List ℕ) × Reads 0 text ts rest × (at + length rest ≡ length text) × F rest
+FailsAt F text at = (ts : List Spanned) × (rest : List ℕ) × Reads 0 text ts rest × (at + length rest ≡ length text)
+    × F rest
 
 -- what may be answered of a text: its tokens, or its first failure; want of memory may come of any
 abbrev pub Answers : List ℕ → Result (List Spanned) LexFault → Type 0

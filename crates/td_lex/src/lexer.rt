@@ -18,8 +18,8 @@ pub struct Lexed {
 }
 
 /// The tokens of a text, which blanks (spaces and tabs) may part, each with where it stands. A text that is no list of
-/// tokens has `BadToken` or `TooWide` with the place, in bytes from 0, at which its first token of no form begins, or its
-/// first number or duration that is too wide, whichever comes first from the left.
+/// tokens has `BadToken` or `TooWide` with the place, in bytes from 0, at which its first token of no form begins, or
+/// its first number or duration that is too wide, whichever comes first from the left.
 pub fn tokens(alloc: Global, text: &[u8]) -> Result<Seq<Spanned>, LexFault>
     ensures answer { Answers text.now result }
     // Each token's text is the slice of its source, and the spans are in order.
@@ -34,8 +34,8 @@ pub fn tokens(alloc: Global, text: &[u8]) -> Result<Seq<Spanned>, LexFault>
     }
 }
 
-/// The tokens of a text as [`tokens`] gives them, and where the text has a fault, those that stand before the first one,
-/// with it.
+/// The tokens of a text as [`tokens`] gives them, and where the text has a fault, those that stand before the first
+/// one, with it.
 pub fn tokens_and_fault(alloc: Global, text: &[u8]) -> Result<Lexed, NoMem>
     ensures { IfOk result (λ l. Lexes text.now l.tokens.items l.fault) }
 {

@@ -1,2 +1,8 @@
+pub mod Entries
+pub mod Handles
+pub mod Kept
 pub mod Memory
+pub mod Parts
 pub mod Rules
+pub mod Tables
+pub mod Track

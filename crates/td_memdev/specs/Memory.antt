@@ -1,6 +1,7 @@
 -- What contracts see of the devices in memory, and what their calls do.
-use Rattle.std.specs.Prelude.{◌≡◌, ℕ, ◌+◌, ◌-◌, ◌^◌, length, min, Bool, if◌then◌else◌, ◌||◌, ◌&&◌, not, ◌==◌, List, Result, is_err, IfOk}
+use Rattle.std.specs.Prelude.{◌≡◌, ℕ, ◌+◌, ◌-◌, ◌^◌, length, min, Bool, if◌then◌else◌, ◌||◌, ◌&&◌, not, ◌==◌, List, Option, Result, is_err, IfOk}
 use Rattle.std.specs.List.{list_any}
+use Rattle.td_memdev.specs.Kept.{Kept}
 
 -- a source: the bytes that are left, how many it gives at most a call, how many it gave, how many calls there were,
 -- which fail, how many failed
@@ -48,3 +49,18 @@ pub record WritesAsListed {E : Type 0} (old new : Page) (count : ℕ) (result : 
   pub calls : new.calls ≡ one_more old.calls
   pub faults : new.faults ≡ (if is_err result then one_more old.faults else old.faults)
   pub same : (new.most ≡ old.most) × (new.fails ≡ old.fails)
+
+-- a place: its store, unless it is out; its calls, which fail, how many failed; how many faults of stores it took back
+pub record Holding : Type 0 where
+  pub store : Option Kept
+  pub calls : ℕ
+  pub fails : List ℕ
+  pub faults : ℕ
+  pub taken : ℕ
+
+-- A call on a place fails exactly where the list names it, and counts no other fault.
+pub record PlaceAsListed (old new : Holding) (failed : Bool) : Type 0 where
+  pub fails : failed ≡ names old.fails (one_more old.calls)
+  pub calls : new.calls ≡ one_more old.calls
+  pub faults : new.faults ≡ (if failed then one_more old.faults else old.faults)
+  pub same : new.fails ≡ old.fails

@@ -8,3 +8,6 @@ pub mod Levels
 pub mod Froms
 pub mod Pend
 pub mod Built
+pub mod Taking
+pub mod Ordered
+pub mod UpTo

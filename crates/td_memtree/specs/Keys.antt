@@ -23,7 +23,6 @@ module _ {T : Type 0} where
   abbrev pub pairs_from : Key → List (Key × T) → List (Key × T)
   pairs_from key pairs = filter (λ (e : Key × T). is_le (key_cmp key e.0)) pairs
 
-
 -- neither side is more than three times as heavy as the other, where a side weighs one more than its pairs
 abbrev pub Balanced : ℕ → ℕ → Type 0
 Balanced l r = (r + 1 ≤ 3 * (l + 1)) × (l + 1 ≤ 3 * (r + 1))

@@ -13,10 +13,13 @@
 //! It stands on `td_layer` for keys, and on `arrayvec` for the pending nodes of a walk.
 #![tactic(auto)]
 
+mod bounded;
+mod range;
 mod send;
 mod tree;
 mod walk;
 
+pub use bounded::Range;
 pub use send::{crossing, tree_crosses};
 pub use tree::Tree;
 pub use walk::Walk;

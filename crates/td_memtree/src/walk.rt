@@ -2,6 +2,7 @@
 ghost use Rattle.std.specs.Prelude.{◌≡◌, ◌+◌, ◌++◌, length};
 ghost use Rattle.std.specs.Iterator.{YieldsFirstBy, item_count};
 ghost use Rattle.arrayvec.specs.ArrayVec.{array_vec_len};
+ghost use Rattle.td_layer.specs.Keys.{InKeyOrder};
 ghost use Rattle.td_memtree.specs.Keys.{pairs_from};
 ghost use Rattle.td_memtree.specs.Pending.{left_pairs, IsLight, ArePending};
 
@@ -71,9 +72,11 @@ fn descend_from<'a, T>(pending: &mut Pending<'a, T>, tree: &'a Tree<T>, from: Ke
 impl<T> Tree<T> {
     /// The pairs whose keys are not before this one, in the order of their keys.
     pub fn walk(&self, from: Key) -> Walk<'_, T>
-        ensures { result ≡ pairs_from from self.now }
+        ensures pairs { result ≡ pairs_from from self.now }
+        ensures in_order { InKeyOrder self.now }
     {
         let _len = self.len();
+        let _link = &self.link;
         let mut pending = ArrayVec::new();
         descend_from(&mut pending, self, from);
         Walk { pending }

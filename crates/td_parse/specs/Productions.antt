@@ -1,5 +1,5 @@
--- The productions of statements, in the order of the language's description, above those of their clauses. A word in capitals is
--- that word in any case.
+-- The productions of statements, in the order of the language's description, above those of their clauses. A word in
+-- capitals is that word in any case.
 use Rattle.std.specs.Prelude.{◌≡◌, ◌==◌, if◌then◌else◌, ℕ, ℤ, pos, negsuc, Bool, true, false, nat_le, List, Option, Some, None, refl}
 use Rattle.std.specs.Option.{unwrap_or}
 use Rattle.td_cols.specs.declared.kinds.Kind.{Kind}
@@ -24,17 +24,21 @@ use Rattle.td_parse.specs.declared.drafts.StreamOption.{StreamOption}
 use Rattle.td_parse.specs.declared.drafts.StreamOption.TheVariants as choice
 use Rattle.td_parse.specs.declared.drafts.Options.{Options}
 
--- type := BOOL | TIMESTAMP | ( TINYINT | SMALLINT | INT | INTEGER | BIGINT ) [ UNSIGNED ] | one that is not built, as below.
+-- type := BOOL | TIMESTAMP | ( TINYINT | SMALLINT | INT | INTEGER | BIGINT ) [ UNSIGNED ] | one that is not built, as
+-- below.
 -- INT and INTEGER are of one kind of words.
 -- The kind with a sign, and without
 unfoldable pub long_width : {E : Type 0} → G E (Kind × Kind)
-long_width = either (valued (λ _. (kind.I32, kind.U32)) (word kinds.INT refl)) (valued (λ _. (kind.I64, kind.U64)) (word kinds.BIGINT refl))
+long_width = either (valued (λ _. (kind.I32, kind.U32)) (word kinds.INT refl))
+    (valued (λ _. (kind.I64, kind.U64)) (word kinds.BIGINT refl))
 
 unfoldable pub width : {E : Type 0} → G E (Kind × Kind)
-width = either (valued (λ _. (kind.I8, kind.U8)) (word kinds.TINYINT refl)) (either (valued (λ _. (kind.I16, kind.U16)) (word kinds.SMALLINT refl)) long_width)
+width = either (valued (λ _. (kind.I8, kind.U8)) (word kinds.TINYINT refl))
+    (either (valued (λ _. (kind.I16, kind.U16)) (word kinds.SMALLINT refl)) long_width)
 
 unfoldable pub whole_number : {E : Type 0} → G E Kind
-whole_number = both (λ (w : Kind × Kind) unsigned. if unsigned then w.1 else w.0) width (maybe false (λ _. true) (word kinds.UNSIGNED refl))
+whole_number = both (λ (w : Kind × Kind) unsigned. if unsigned then w.1 else w.0) width
+    (maybe false (λ _. true) (word kinds.UNSIGNED refl))
 
 -- the word of a type that is not built in a column, and of one that is not built in a tag either
 abbrev pub column_not_built : {E : Type 0} → G E (Unit {0})
@@ -49,11 +53,14 @@ sizes = perhaps (inside (number ▷ perhaps (sign kinds.COMMA refl ▷ number)))
 
 -- reading a word of types that are not built, of these kinds, and its sizes
 abbrev pub not_built_in : KindRange → List Lexeme → Reading (Unit {0})
-not_built_in range ts = one (fits (within range) (λ _. true)) (λ _. tt {0}) ts >>= λ a. as_value (λ b. b) (read (tt {0}) sizes a.1)
+not_built_in range ts = one (fits (within range) (λ _. true)) (λ _. tt {0}) ts >>= λ a. as_value (λ b. b)
+    (read (tt {0}) sizes a.1)
 
 -- A column whose type is not built has the kind of sums, which no column has.
 unfoldable pub column_kind : {E : Type 0} → G E Kind
-column_kind = either (valued (λ _. kind.Bool) (word kinds.BOOL refl)) (either (valued (λ _. kind.Time) (word kinds.TIMESTAMP refl)) (either (valued (λ _. kind.Wide) (column_not_built ▷ sizes)) whole_number))
+column_kind = either (valued (λ _. kind.Bool) (word kinds.BOOL refl))
+    (either (valued (λ _. kind.Time) (word kinds.TIMESTAMP refl))
+    (either (valued (λ _. kind.Wide) (column_not_built ▷ sizes)) whole_number))
 
 -- a number of bytes; outside 0 to 65535 it is kept as 0
 abbrev pub size_of : ℤ → ℕ
@@ -68,7 +75,9 @@ unfoldable pub later_tag_kind : {E : Type 0} → G E Kind
 later_tag_kind = either text_kind whole_number
 
 unfoldable pub tag_kind : {E : Type 0} → G E Kind
-tag_kind = either (valued (λ _. kind.Bool) (word kinds.BOOL refl)) (either (valued (λ _. kind.Time) (word kinds.TIMESTAMP refl)) (either (valued (λ _. kind.Wide) (tag_not_built ▷ sizes)) later_tag_kind))
+tag_kind = either (valued (λ _. kind.Bool) (word kinds.BOOL refl))
+    (either (valued (λ _. kind.Time) (word kinds.TIMESTAMP refl))
+    (either (valued (λ _. kind.Wide) (tag_not_built ▷ sizes)) later_tag_kind))
 
 -- cols := name type { , name type }
 unfoldable pub column : {E : Type 0} → G E Column
@@ -100,9 +109,11 @@ tags = word kinds.TAGS refl ▷ inside tag_list
 
 -- CREATE STABLE name ( cols ) [ TAGS ( tags ) ]
 unfoldable pub stable : {E : Type 0} → G E Stmt
-stable = word kinds.STABLE refl ▷ both (λ n (r : List Column × Option (List Column)). stmt.MakeStable n r.0 r.1) name (both (λ c t. (c, t)) columns (maybe None Some tags))
+stable = word kinds.STABLE refl ▷ both (λ n (r : List Column × Option (List Column)). stmt.MakeStable n r.0 r.1) name
+    (both (λ c t. (c, t)) columns (maybe None Some tags))
 
--- CREATE TABLE name ( cols ) [ TAGS ( tags ) ], which with TAGS makes a supertable, and CREATE TABLE name USING name TAGS ( lits )
+-- CREATE TABLE name ( cols ) [ TAGS ( tags ) ], which with TAGS makes a supertable, and CREATE TABLE name USING name
+-- TAGS ( lits )
 abbrev pub body_of : List Column → Option (List Column) → Body
 body_of columns None = body.Plain columns
 body_of columns (Some tags) = body.Super columns tags
@@ -138,21 +149,31 @@ unfoldable pub chosen_columns : {E : Type 0} → G E (Option (List (List ℕ)))
 chosen_columns = maybe None Some (inside names)
 
 unfoldable pub insert : {E : Type 0} → G E Stmt
-insert = word kinds.INSERT refl ▷ word kinds.INTO refl ▷ both (λ t (r : Option (List (List ℕ)) × List (List Lit)). stmt.Insert t r.0 r.1) name (both (λ c g. (c, g)) chosen_columns (word kinds.VALUES refl ▷ groups))
+insert = word kinds.INSERT refl ▷ word kinds.INTO refl ▷ both
+    (λ t (r : Option (List (List ℕ)) × List (List Lit)). stmt.Insert t r.0 r.1) name
+    (both (λ c g. (c, g)) chosen_columns (word kinds.VALUES refl ▷ groups))
 
 -- DELETE FROM name WHERE name >= tlit AND name <= tlit, with one name in both places
 unfoldable pub range_of : G (List ℕ) (Lit × Lit)
 range_of = at_least ▷ both (λ lo hi. (lo, hi)) a_bound (word kinds.AND refl ▷ same_name ▷ at_most ▷ a_bound)
 
 unfoldable pub delete : {E : Type 0} → G E Stmt
-delete = word kinds.DELETE refl ▷ word kinds.FROM refl ▷ both (λ t (r : List ℕ × (Lit × Lit)). stmt.Delete t r.0 r.1.0 r.1.1) name (word kinds.WHERE refl ▷ under (λ c r. (c, r)) name range_of)
+delete = word kinds.DELETE refl ▷ word kinds.FROM refl ▷ both
+    (λ t (r : List ℕ × (Lit × Lit)). stmt.Delete t r.0 r.1.0 r.1.1) name
+    (word kinds.WHERE refl ▷ under (λ c r. (c, r)) name range_of)
 
--- option := TRIGGER AT_ONCE | TRIGGER WINDOW_CLOSE | TRIGGER MAX_DELAY Dur | WATERMARK Dur | IGNORE EXPIRED bit | FILL_HISTORY bit
+-- option := TRIGGER AT_ONCE | TRIGGER WINDOW_CLOSE | TRIGGER MAX_DELAY Dur | WATERMARK Dur | IGNORE EXPIRED bit |
+-- FILL_HISTORY bit
 unfoldable pub a_trigger : {E : Type 0} → G E Trigger
-a_trigger = word kinds.TRIGGER refl ▷ either (valued (λ _. trigger.AtOnce) (word kinds.AT_ONCE refl)) (either (valued (λ _. trigger.WindowClose) (word kinds.WINDOW_CLOSE refl)) (valued trigger.MaxDelay (word kinds.MAX_DELAY refl ▷ duration)))
+a_trigger = word kinds.TRIGGER refl ▷ either (valued (λ _. trigger.AtOnce) (word kinds.AT_ONCE refl))
+    (either (valued (λ _. trigger.WindowClose) (word kinds.WINDOW_CLOSE refl))
+    (valued trigger.MaxDelay (word kinds.MAX_DELAY refl ▷ duration)))
 
 unfoldable pub stream_option : {E : Type 0} → G E StreamOption
-stream_option = either (valued choice.Trigger a_trigger) (either (valued choice.Watermark (word kinds.WATERMARK refl ▷ duration)) (either (valued choice.Expired (word kinds.IGNORE refl ▷ word kinds.EXPIRED refl ▷ zero_or_one)) (valued choice.History (word kinds.FILL_HISTORY refl ▷ zero_or_one))))
+stream_option = either (valued choice.Trigger a_trigger)
+    (either (valued choice.Watermark (word kinds.WATERMARK refl ▷ duration))
+    (either (valued choice.Expired (word kinds.IGNORE refl ▷ word kinds.EXPIRED refl ▷ zero_or_one))
+    (valued choice.History (word kinds.FILL_HISTORY refl ▷ zero_or_one))))
 
 abbrev pub missing : {A : Type 0} → Option A → Bool
 missing None = true
@@ -160,7 +181,9 @@ missing (Some a) = false
 
 -- no option of its kind stands before
 abbrev pub is_new : Options → Lexeme → Bool
-is_new all t = if t.kind == kinds.TRIGGER then missing all.trigger else if t.kind == kinds.WATERMARK then missing all.watermark else if t.kind == kinds.IGNORE then missing all.expired else missing all.history
+is_new all t = if t.kind == kinds.TRIGGER then missing all.trigger
+    else if t.kind == kinds.WATERMARK then missing all.watermark
+    else if t.kind == kinds.IGNORE then missing all.expired else missing all.history
 
 abbrev pub with_option : Options → StreamOption → Options
 with_option all (choice.Trigger t) = record all { trigger = Some t }
@@ -176,10 +199,21 @@ options = loop no_options is_new with_option stream_option
 
 -- CREATE STREAM name { option } INTO name AS query
 abbrev pub stream_of : List ℕ → Options → List ℕ → Query → StreamDef
-stream_of n o target q = record { name = n; trigger = unwrap_or o.trigger trigger.AtOnce; watermark = unwrap_or o.watermark 0; ignore_expired = unwrap_or o.expired false; fill_history = unwrap_or o.history true; target = target; query = q }
+stream_of n o target q =
+    record {
+      name = n;
+      trigger = unwrap_or o.trigger trigger.AtOnce;
+      watermark = unwrap_or o.watermark 0;
+      ignore_expired = unwrap_or o.expired false;
+      fill_history = unwrap_or o.history true;
+      target = target;
+      query = q;
+    }
 
 unfoldable pub stream : {E : Type 0} → G E Stmt
-stream = word kinds.STREAM refl ▷ both (λ n (r : Options × (List ℕ × Query)). stmt.MakeStream (stream_of n r.0 r.1.0 r.1.1)) name (both (λ o r. (o, r)) options (word kinds.INTO refl ▷ both (λ t q. (t, q)) name (word kinds.AS refl ▷ query)))
+stream = word kinds.STREAM refl ▷ both
+    (λ n (r : Options × (List ℕ × Query)). stmt.MakeStream (stream_of n r.0 r.1.0 r.1.1)) name
+    (both (λ o r. (o, r)) options (word kinds.INTO refl ▷ both (λ t q. (t, q)) name (word kinds.AS refl ▷ query)))
 
 unfoldable pub create : {E : Type 0} → G E Stmt
 create = word kinds.CREATE refl ▷ either stable (either table stream)
@@ -203,7 +237,9 @@ unfoldable pub step : {E : Type 0} → G E Stmt
 step = word kinds.STEP refl ▷ valued stmt.Step name
 
 unfoldable pub plain_command : {E : Type 0} → G E Stmt
-plain_command = either (valued (λ _. stmt.Commit) (word kinds.COMMIT refl)) (either (valued (λ _. stmt.Merge) (word kinds.MERGE refl)) (either (valued (λ _. stmt.Sweep) (word kinds.SWEEP refl)) (valued (λ _. stmt.Trim) (word kinds.TRIM refl))))
+plain_command = either (valued (λ _. stmt.Commit) (word kinds.COMMIT refl))
+    (either (valued (λ _. stmt.Merge) (word kinds.MERGE refl))
+    (either (valued (λ _. stmt.Sweep) (word kinds.SWEEP refl)) (valued (λ _. stmt.Trim) (word kinds.TRIM refl))))
 
 unfoldable pub maintenance_command : {E : Type 0} → G E Stmt
 maintenance_command = either step plain_command

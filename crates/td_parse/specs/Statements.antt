@@ -46,20 +46,24 @@ cause_by t = cause_of_kind (kind_of t.token) t.at
 
 -- the text ends here, and these tokens are no statement
 abbrev pub EndsEarly : List ℕ → List Spanned → List ℕ → Cause → Type 0
-EndsEarly text ts rest cause = (rest ≡ []) × ((tree : Stmt) → IsStatement (lexemes ts) tree → ⊥) × (cause ≡ Syntax (length text))
+EndsEarly text ts rest cause = (rest ≡ []) × ((tree : Stmt) → IsStatement (lexemes ts) tree → ⊥) ×
+    (cause ≡ Syntax (length text))
 
 -- no statement begins with these tokens and the next one
 abbrev pub TokenFails : List ℕ → List Spanned → Cause → Type 0
-TokenFails text ts cause = (t : Spanned) × (after : List ℕ) × Reads 0 text (ts ++ t ∷ []) after × (BeginsStatement (lexemes (ts ++ t ∷ [])) → ⊥) × (cause ≡ cause_by t)
+TokenFails text ts cause = (t : Spanned) × (after : List ℕ) × Reads 0 text (ts ++ t ∷ []) after ×
+    (BeginsStatement (lexemes (ts ++ t ∷ [])) → ⊥) × (cause ≡ cause_by t)
 
 -- no token stands next, or a number or a duration that is too wide
 abbrev pub NoTokenStands : List ℕ → List ℕ → Cause → Type 0
-NoTokenStands text rest cause = (NoToken rest ⊎ WideFirst rest) × (at : ℕ) × (at + length rest ≡ length text) × (cause ≡ Syntax at)
+NoTokenStands text rest cause = (NoToken rest ⊎ WideFirst rest) × (at : ℕ) × (at + length rest ≡ length text) ×
+    (cause ≡ Syntax at)
 
--- The text is no statement: some statement begins with its first tokens, and none goes on as it does. The cause names the
--- place of what follows these tokens.
+-- The text is no statement: some statement begins with its first tokens, and none goes on as it does. The cause names
+-- the place of what follows these tokens.
 abbrev pub Fails : List ℕ → Cause → Type 0
-Fails text cause = (ts : List Spanned) × (rest : List ℕ) × Reads 0 text ts rest × BeginsStatement (lexemes ts) × (EndsEarly text ts rest cause ⊎ (TokenFails text ts cause ⊎ NoTokenStands text rest cause))
+Fails text cause = (ts : List Spanned) × (rest : List ℕ) × Reads 0 text ts rest × BeginsStatement (lexemes ts) ×
+    (EndsEarly text ts rest cause ⊎ (TokenFails text ts cause ⊎ NoTokenStands text rest cause))
 
 -- A name is longer than a name may be: so long a word is a name wherever it stands in a statement.
 abbrev pub has_long_name : List Lexeme → Bool
@@ -109,20 +113,23 @@ or_wrong None tree = tree
 or_wrong (Some cause) tree = stmt.Wrong cause
 
 abbrev pub Parsed : List ℕ → Stmt → Type 0
-Parsed text answer = (ts : List Spanned) × (tree : Stmt) × IsTokens text ts × IsStatement (lexemes ts) tree × (answer ≡ judged (lexemes ts) tree)
+Parsed text answer = (ts : List Spanned) × (tree : Stmt) × IsTokens text ts × IsStatement (lexemes ts) tree ×
+    (answer ≡ judged (lexemes ts) tree)
 
 abbrev pub Refused : List ℕ → Stmt → Type 0
 Refused text answer = (cause : Cause) × Fails text cause × (answer ≡ stmt.Wrong cause)
 
 -- What is answered of a text. One that is longer than a statement may be is too long, whatever stands in it.
 abbrev pub IsAnswer : List ℕ → Stmt → Type 0
-IsAnswer text answer = ((STATEMENT_BYTES < length text) × (answer ≡ stmt.Wrong TooLong)) ⊎ ((length text ≤ STATEMENT_BYTES) × (Parsed text answer ⊎ Refused text answer))
+IsAnswer text answer = ((STATEMENT_BYTES < length text) × (answer ≡ stmt.Wrong TooLong)) ⊎
+    ((length text ≤ STATEMENT_BYTES) × (Parsed text answer ⊎ Refused text answer))
 
 -- where the tokens begin
 abbrev pub places : List Spanned → List ℕ
 places ts = map (λ t. t.at) ts
 
--- the cause where these tokens, at these places, are left at the first failure, and the text or what can be read of it ends there
+-- the cause where these tokens, at these places, are left at the first failure, and the text or what can be read of
+-- it ends there
 abbrev pub cause_of_rest : List Lexeme → List ℕ → ℕ → Cause
 cause_of_rest [] ats end = Syntax end
 cause_of_rest (l ∷ ls) [] end = Syntax end
@@ -136,8 +143,10 @@ FailsIn ls ats end answer = (left : ℕ) × FailsAt IsStatement ls left × (answ
 
 -- what is answered of all tokens of a text of this length
 abbrev pub OfTokens : List Lexeme → List ℕ → ℕ → Stmt → Type 0
-OfTokens ls ats end answer = ((tree : Stmt) × IsStatement ls tree × (answer ≡ judged ls tree)) ⊎ FailsIn ls ats end answer
+OfTokens ls ats end answer = ((tree : Stmt) × IsStatement ls tree × (answer ≡ judged ls tree))
+    ⊎ FailsIn ls ats end answer
 
 -- what is answered of the tokens before a place at which there is none
 abbrev pub OfFront : List Lexeme → List ℕ → ℕ → Stmt → Type 0
-OfFront ls ats at answer = ((tree : Stmt) × IsStatement ls tree × (answer ≡ stmt.Wrong (Syntax at))) ⊎ FailsIn ls ats at answer
+OfFront ls ats at answer = ((tree : Stmt) × IsStatement ls tree × (answer ≡ stmt.Wrong (Syntax at)))
+    ⊎ FailsIn ls ats at answer

@@ -212,13 +212,14 @@ fn of_front(alloc: Global, lexemes: &[Lexeme], places: &[u64], at: u64) -> Resul
     }
 }
 
-/// The tree of a text that is a statement, or `Stmt::Wrong` with the first of these causes that applies: `TooLong` where the
-/// text is longer than 1 MiB (`STATEMENT_BYTES`), which is known before a token is read; `Syntax` with the place, in bytes
-/// from 0, of the first token such that no statement begins with the tokens before it and that token, or of a byte before
-/// it at which no token stands, and with the text's length where it ends too early; `OptionNotBuilt` in its place where
-/// that token is one of the reserved words that are not built; `NameTooLong` where a name is longer than 192 bytes;
-/// `TypeNotBuilt` where a column or a tag has a type that is not built there; `OptionNotBuilt` where a duration is in b, u,
-/// n or y, or a stream has IGNORE EXPIRED 1 or FILL_HISTORY 0. It answers no other error than want of memory.
+/// The tree of a text that is a statement, or `Stmt::Wrong` with the first of these causes that applies: `TooLong`
+/// where the text is longer than 1 MiB (`STATEMENT_BYTES`), which is known before a token is read; `Syntax` with the
+/// place, in bytes from 0, of the first token such that no statement begins with the tokens before it and that token,
+/// or of a byte before it at which no token stands, and with the text's length where it ends too early;
+/// `OptionNotBuilt` in its place where that token is one of the reserved words that are not built; `NameTooLong`
+/// where a name is longer than 192 bytes; `TypeNotBuilt` where a column or a tag has a type that is not built there;
+/// `OptionNotBuilt` where a duration is in b, u, n or y, or a stream has IGNORE EXPIRED 1 or FILL_HISTORY 0. It
+/// answers no other error than want of memory.
 pub fn statement(alloc: Global, text: &[u8]) -> Result<Stmt, NoMem>
     ensures { IfOk result (λ answer. IsAnswer text.now answer) }
 {

@@ -4,6 +4,7 @@ ghost use Rattle.td_outside.specs.Causes.{Reads};
 
 use std::marker::Model;
 use std::time::SystemTime;
+use td_limits::LAST_TIMESTAMP;
 use td_outside::Clock;
 
 /// The system's clock in milliseconds since 1970, up to the end of year 9999. Where the system gives no reading it answers
@@ -14,17 +15,15 @@ pub struct SystemClock {
     last: u64,
 }
 
-/// The last moment of year 9999, in milliseconds since 1970.
-const LAST_MOMENT: u128 = 253402300799999;
-
 impl Model for SystemClock {
     ghost use Rattle.std.specs.Prelude.{ℕ, ◌≤◌};
+    ghost use Rattle.td_limits.specs.declared.limits.TheConstants.{LAST_TIMESTAMP};
 
     ghost Value = { ℕ };
 
     ghost view = { λ c. c.last };
 
-    ghost invariant = { λ c. c.last ≤ 253402300799999 };
+    ghost invariant = { λ c. c.last ≤ LAST_TIMESTAMP };
 }
 
 impl SystemClock {
@@ -40,13 +39,13 @@ impl Clock for SystemClock {
     ghost readings = { λ c. None };
 
     fn now(&mut self) -> u64
-        ensures most { result ≤ 253402300799999 }
+        ensures most { result ≤ LAST_TIMESTAMP }
         ensures reading { Reads None None result }
         ensures last { self.new ≡ result }
     {
         if let Ok(now) = SystemTime::now(&self.rt) {
             if let Ok(since) = now.duration_since(SystemTime::UNIX_EPOCH) {
-                self.last = since.as_millis().min(LAST_MOMENT) as u64;
+                self.last = since.as_millis().min(LAST_TIMESTAMP as u128) as u64;
             }
         }
         self.last

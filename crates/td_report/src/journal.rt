@@ -44,7 +44,8 @@ fn push_who(out: &mut Name, session: u32, ordinal: u32) -> Result<(), NoMem>
 
 #[tactic(auto, using(std::proofs::lemmas::List::append_assoc))]
 fn push_step(out: &mut Name, stream: &Name, upto: u64, moment: u64) -> Result<(), NoMem>
-    ensures { OnOk result (out.new ≡ out.old ++ (codes " step " ++ stream.now ++ codes " " ++ decimal upto ++ codes " " ++ decimal moment)) }
+    ensures { OnOk result (out.new ≡ out.old ++ (codes " step " ++ stream.now ++ codes " " ++ decimal upto ++
+        codes " " ++ decimal moment)) }
 {
     out.extend(b" step ")?;
     out.extend(stream.as_slice())?;

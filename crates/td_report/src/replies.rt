@@ -40,7 +40,9 @@ fn push_answer(
     header: &[Name],
     rows: &[Seq<Cell>],
 ) -> Result<(), NoMem>
-    ensures { OnOk result (out.new ≡ out.old ++ (codes "answer " ++ decimal prefix ++ codes " rows " ++ decimal (length rows.now) ++ codes "\n" ++ names_text header.now ++ codes "\n" ++ flat_map row_line rows.now)) }
+    ensures { OnOk result (out.new ≡ out.old ++ (codes "answer " ++ decimal prefix ++ codes " rows " ++
+        decimal (length rows.now) ++ codes "\n" ++ names_text header.now ++ codes "\n" ++
+        flat_map row_line rows.now)) }
 {
     push_two(out, b"answer ", prefix, b" rows ", rows.len() as u64)?;
     push_names(out, header)?;
@@ -50,7 +52,8 @@ fn push_answer(
 
 #[tactic(auto, using(std::proofs::lemmas::List::append_assoc))]
 fn push_refused(out: &mut Name, prefix: u64, cause: &Cause) -> Result<(), NoMem>
-    ensures { OnOk result (out.new ≡ out.old ++ (codes "refused " ++ decimal prefix ++ codes " " ++ cause_text cause.now ++ codes "\n")) }
+    ensures { OnOk result (out.new ≡ out.old ++ (codes "refused " ++ decimal prefix ++ codes " " ++
+        cause_text cause.now ++ codes "\n")) }
 {
     out.extend(b"refused ")?;
     decimal(i128::from(prefix), out)?;

@@ -1,5 +1,5 @@
 -- The rows of a range of a table, among rows in the order of their keys; and what a cut leaves as it removes one of them.
-use Rattle.std.proofs.Common.{◌≡◌, ◌<◌, ℕ, Bool, true, false, Some, is_some, cond, not, List, [], ◌∷◌, filter, refl, sym, ap, ◌∙◌, arith}
+use Rattle.std.proofs.Common.{◌≡◌, ◌<◌, ℕ, Bool, true, false, Some, is_some, cond, not, [], ◌∷◌, filter, refl, sym, ap, ◌∙◌, arith}
 use Rattle.std.specs.BTreeMap.{is_at}
 use Rattle.std.specs.BTreeMap.Range.{range_contains, entries_between}
 use Rattle.std.specs.Map.{lookup, remove_entry}
@@ -42,6 +42,7 @@ cut_one table lo hi key (e ∷ es) h = by (is_at (key_cmp key) e.0) refl (cut_on
   where
     keep : Key × Row → Bool
     keep x = not (is_cut table lo hi x.0)
+
     by : (b : Bool) → is_at (key_cmp key) e.0 ≡ b → filter (λ x. not (is_cut table lo hi x.0)) (remove_entry (is_at (key_cmp key)) es) ≡ filter (λ x. not (is_cut table lo hi x.0)) es
         → filter (λ x. not (is_cut table lo hi x.0)) (cond b es (e ∷ remove_entry (is_at (key_cmp key)) es)) ≡ cond (not (is_cut table lo hi e.0)) (e ∷ filter (λ x. not (is_cut table lo hi x.0)) es) (filter (λ x. not (is_cut table lo hi x.0)) es)
     by true at rest = left_out (not (is_cut table lo hi e.0)) e (filter (λ x. not (is_cut table lo hi x.0)) es) (same_cut table lo hi key e.0 at h)
@@ -76,6 +77,7 @@ there p (x ∷ xs) left e h = by (p x) h (there p xs left e)
     later : (b : Bool) → is_some (lookup (is_at (key_cmp e.0)) xs) ≡ true → is_some (cond b (Some x.1) (lookup (is_at (key_cmp e.0)) xs)) ≡ true
     later true k = refl
     later false k = k
+
     by : (b : Bool) → cond b (x ∷ filter p xs) (filter p xs) ≡ e ∷ left → (filter p xs ≡ e ∷ left → is_some (lookup (is_at (key_cmp e.0)) xs) ≡ true) → is_some (cond (is_at (key_cmp e.0) x.0) (Some x.1) (lookup (is_at (key_cmp e.0)) xs)) ≡ true
     by true k rest =
         let same : x ≡ e = cc in

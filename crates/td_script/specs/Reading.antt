@@ -50,7 +50,8 @@ is_digit b = nat_le 48 b && nat_le b 57
 abbrev pub session_of : List ℕ → Option ℕ
 session_of [] = None
 session_of (a ∷ []) = if is_digit a && nat_le 49 a then Some (a - 48) else None
-session_of (a ∷ b ∷ []) = if is_digit a && nat_le 49 a && is_digit b && nat_le ((a - 48) * 10 + (b - 48)) 64 then Some ((a - 48) * 10 + (b - 48)) else None
+session_of (a ∷ b ∷ []) = if is_digit a && nat_le 49 a && is_digit b && nat_le ((a - 48) * 10 + (b - 48)) 64 then Some
+    ((a - 48) * 10 + (b - 48)) else None
 session_of (a ∷ b ∷ c ∷ rest) = None
 
 unfoldable pub statement_of : List ℕ → Option LineKind
@@ -64,7 +65,9 @@ is_comment [] = false
 is_comment (b ∷ bs) = b == 35
 
 unfoldable pub form_of : List ℕ → Option LineKind
-form_of line = if list_all is_blank line then Some Empty else (if is_comment line then Some Comment else (if bytes_eq line (codes "----") then Some Phase else statement_of line))
+form_of line = if list_all is_blank line then Some Empty else
+    (if is_comment line then Some Comment else
+    (if bytes_eq line (codes "----") then Some Phase else statement_of line))
 
 unfoldable pub kind_of : List ℕ → Option LineKind
 kind_of line = if is_utf8 line then form_of (without_return line) else None
@@ -77,7 +80,12 @@ step n Phase = record { phase = n.phase + 1; counts = n.counts; lines = n.lines 
 step n (Statement session text) = record {
   phase = n.phase;
   counts = slice_set n.counts (session - 1) (slice_index n.counts (session - 1) + 1);
-  lines = n.lines ++ record { phase = n.phase; session = session; ordinal = slice_index n.counts (session - 1) + 1; text = text } ∷ [];
+  lines = n.lines ++ record {
+    phase = n.phase;
+    session = session;
+    ordinal = slice_index n.counts (session - 1) + 1;
+    text = text;
+  } ∷ [];
 }
 
 -- there are 64 counts, each 0

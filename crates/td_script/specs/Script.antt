@@ -44,7 +44,8 @@ pub data IsForm : List ℕ → LineKind → Type 0 where
   empty_line : (blanks : List ℕ) → AreBlanks blanks → IsForm blanks Empty
   comment_line : (rest : List ℕ) → IsForm (35 ∷ rest) Comment
   phase_line : IsForm (codes "----") Phase
-  statement_line : (session : ℕ) (blanks text : List ℕ) → 1 ≤ session → session ≤ 64 → AreBlanks blanks → BeginsWithNoBlank text → IsForm (digits session ++ 58 ∷ (blanks ++ text)) (Statement session text)
+  statement_line : (session : ℕ) (blanks text : List ℕ) → 1 ≤ session → session ≤ 64 → AreBlanks blanks
+      → BeginsWithNoBlank text → IsForm (digits session ++ 58 ∷ (blanks ++ text)) (Statement session text)
 
 -- A line of a kind: it is UTF-8, and without a carriage return at its end it has the kind's form.
 pub record IsLine (line : List ℕ) (kind : LineKind) : Type 0 where
@@ -65,7 +66,8 @@ HasNoFeed line = AllByRecursion (λ b. b ≢ 10) line
 pub data AreCut : List ℕ → List (List ℕ) → Type 0 where
   none : AreCut [] []
   last : (line : List ℕ) → line ≢ [] → HasNoFeed line → AreCut line (line ∷ [])
-  more : (line rest : List ℕ) (lines : List (List ℕ)) → HasNoFeed line → AreCut rest lines → AreCut (line ++ 10 ∷ rest) (line ∷ lines)
+  more : (line rest : List ℕ) (lines : List (List ℕ)) → HasNoFeed line → AreCut rest lines → AreCut
+      (line ++ 10 ∷ rest) (line ∷ lines)
 
 -- these lines are of these kinds, one by one
 abbrev pub AreOfKinds : List (List ℕ) → List LineKind → Type 0
@@ -84,15 +86,21 @@ AreLines bytes kinds = (lines : List (List ℕ)) × AreCut bytes lines × AreOfK
 abbrev pub count_of : ℕ → List ℕ → ℕ
 count_of session sessions = count_by (λ s. s == session) sessions
 
--- The statement lines of lines of these kinds, in a phase, after statements of these sessions, the latest first. A phase
--- line begins the next phase. A statement's ordinal counts the statements of its session from 1, over all phases.
+-- The statement lines of lines of these kinds, in a phase, after statements of these sessions, the latest first. A
+-- phase line begins the next phase. A statement's ordinal counts the statements of its session from 1, over all
+-- phases.
 abbrev pub lines_from : ℕ → List ℕ → List LineKind → List Line
 lines_from phase sessions [] = []
 lines_from phase sessions (Empty ∷ kinds) = lines_from phase sessions kinds
 lines_from phase sessions (Comment ∷ kinds) = lines_from phase sessions kinds
 lines_from phase sessions (Phase ∷ kinds) = lines_from (phase + 1) sessions kinds
 lines_from phase sessions (Statement session text ∷ kinds) =
-    record { phase = phase; session = session; ordinal = count_of session sessions + 1; text = text } ∷ lines_from phase (session ∷ sessions) kinds
+    record {
+      phase = phase;
+      session = session;
+      ordinal = count_of session sessions + 1;
+      text = text;
+    } ∷ lines_from phase (session ∷ sessions) kinds
 
 -- the bytes are a script with these statement lines
 abbrev pub IsScript : List ℕ → List Line → Type 0
@@ -113,8 +121,9 @@ abbrev pub FaultIs : List ℕ → ScriptFault → Type 0
 FaultIs bytes (BadScript n) = FirstOutside bytes n
 FaultIs bytes NoMemory = Unit {0}
 
--- Each line's session is one of 1 to 64, and its ordinal counts the lines of its session, from 1, after lines that stand
--- before all of these.
+-- Each line's session is one of 1 to 64, and its ordinal counts the lines of its session, from 1, after lines that
+-- stand before all of these.
 abbrev pub Numbered : List Line → List Line → Type 0
 Numbered before [] = Unit {0}
-Numbered before (l ∷ ls) = (1 ≤ l.session) × (l.session ≤ 64) × (l.ordinal ≡ count_by (λ m. m.session == l.session) before + 1) × Numbered (before ++ l ∷ []) ls
+Numbered before (l ∷ ls) = (1 ≤ l.session) × (l.session ≤ 64) ×
+    (l.ordinal ≡ count_by (λ m. m.session == l.session) before + 1) × Numbered (before ++ l ∷ []) ls

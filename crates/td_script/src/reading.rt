@@ -10,9 +10,9 @@ use td_layer::Seq;
 
 /// The statement lines of a script.
 ///
-/// `BadScript` comes exactly where the bytes aren't a script, and names the first line of no form, from 1. Want of memory
-/// may come in place of any answer. Phases and ordinals are numbers of 32 bits, so the script has less than 2^32 bytes:
-/// then it has fewer lines than that, and each of these numbers fits.
+/// `BadScript` comes exactly where the bytes aren't a script, and names the first line of no form, from 1. Want of
+/// memory may come in place of any answer. Phases and ordinals are numbers of 32 bits, so the script has less than
+/// 2^32 bytes: then it has fewer lines than that, and each of these numbers fits.
 pub fn script(alloc: Global, bytes: &[u8]) -> Result<Seq<Line>, ScriptFault>
     requires { length bytes.now < 2 ^ 32 }
     ensures script { IfOk result (λ lines. IsScript bytes.now lines) }

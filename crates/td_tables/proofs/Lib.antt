@@ -2,4 +2,3 @@ pub mod Answered
 pub mod Subtables
 pub mod Steps
 pub mod Turns
-pub mod Empty

@@ -1,5 +1,5 @@
 -- Turns of statements that are accepted, refused or answered.
-use Rattle.std.proofs.Common.{◌≡◌, ℕ, ◌+◌, true, cond, List, [], ◌∷◌, Option, Some, None, refl, sym, ap, ◌∙◌}
+use Rattle.std.proofs.Common.{◌≡◌, ℕ, ◌+◌, true, cond, [], ◌∷◌, Option, Some, None, refl, sym, ap, ◌∙◌}
 use Rattle.td_model.specs.declared.language.Query.{Query}
 use Rattle.td_model.specs.declared.language.Stmt.{Stmt}
 use Rattle.td_model.specs.declared.language.Stmt.TheVariants as stmt

@@ -1,10 +1,9 @@
 -- Subtables lie by number, and stay so as one is put in its place.
-use Rattle.std.proofs.Common.{◌≡◌, ℕ, zero, suc, ◌+◌, ◌-◌, ◌<◌, ◌≤◌, Bool, true, false, cond, List, [], ◌∷◌, map, length, get_or, ltb, Option, Some, None, refl, sym, ap, ◌∙◌, arith, inl, inr, is_lt, All}
+use Rattle.std.proofs.Common.{◌≡◌, ℕ, zero, suc, ◌+◌, ◌-◌, ◌<◌, ◌≤◌, Bool, true, false, cond, List, [], ◌∷◌, map, length, get_or, ltb, Option, Some, None, refl, sym, ap, ◌∙◌, arith, inl, inr, is_lt}
 use Rattle.std.specs.Ordering.{nat_cmp, is_eq, match_ordering}
 use Rattle.std.specs.List.{insert}
 use Rattle.std.specs.List.Sorted.{IsSortedBy}
-use Rattle.std.specs.Map.{lookup, keys_of}
-use Rattle.std.proofs.lemmas.List.Elements.{All-head, All-tail}
+use Rattle.std.specs.Map.{lookup}
 use Rattle.std.specs.BTreeMap.{insert_entry, is_at}
 use Rattle.std.specs.declared.cmp.Ordering.TheVariants.{Less, Greater}
 use Rattle.std.proofs.lemmas.Bool.{cases_order}
@@ -80,13 +79,3 @@ inserted-entry (e ∷ es) (suc i) s within front back absent =
     let tail = inserted-entry es i s (omega arith) (λ k d h. front (suc k) d (omega arith)) (λ k d low h. back (suc k) d (omega arith) (omega arith)) absent_rest in
     ap (λ r. subtable_of e ∷ r) tail
     ∙ sym (ap (λ o. match_ordering o ((s.table, s.tags) ∷ subtable_of e ∷ rest) ((e.table, s.tags) ∷ rest) (subtable_of e ∷ insert_entry nat_cmp rest s.table s.tags)) greater)
-
-below_not_at : (k t : ℕ) → k < t → is_at (nat_cmp t) k ≡ false
-below_not_at k t h = grind (arith, nat_tests)
-
--- a number above those of all subtables isn't in the index
-pub absent_above : (t : ℕ) (es : List (ℕ × List Cell)) → All (λ k. k < t) (keys_of es) → lookup (is_at (nat_cmp t)) es ≡ None
-absent_above t [] h = refl
-absent_above t (e ∷ es) h =
-    let rest = absent_above t es (All-tail (λ k. k < t) e.0 (keys_of es) h) in
-    ap (λ b. cond b (Some e.1) (lookup (is_at (nat_cmp t)) es)) (below_not_at e.0 t (All-head (λ k. k < t) e.0 (keys_of es) h)) ∙ rest

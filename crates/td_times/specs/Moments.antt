@@ -32,8 +32,17 @@ pub record Exists (m : Moment) : Type 0 where
 
 -- its full form, with three digits of a fraction
 abbrev pub full : Moment → Stamp
-full m = record { year = four_digits m.year; month = two_digits m.month; day = two_digits m.day; hour = two_digits m.hour; minute = two_digits m.minute; second = two_digits m.second; fraction = three_digits m.millisecond }
+full m = record {
+  year = four_digits m.year;
+  month = two_digits m.month;
+  day = two_digits m.day;
+  hour = two_digits m.hour;
+  minute = two_digits m.minute;
+  second = two_digits m.second;
+  fraction = three_digits m.millisecond;
+}
 
 -- the milliseconds since 1970
 abbrev pub since_1970 : Moment → ℤ
-since_1970 m = pos 86400000 *ℤ days_from_civil (pos m.year) m.month m.day +ℤ pos (((m.hour * 60 + m.minute) * 60 + m.second) * 1000 + m.millisecond)
+since_1970 m = pos 86400000 *ℤ days_from_civil (pos m.year) m.month m.day +ℤ pos
+    (((m.hour * 60 + m.minute) * 60 + m.second) * 1000 + m.millisecond)

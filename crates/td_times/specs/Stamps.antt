@@ -28,7 +28,8 @@ past_byte b (c ∷ cs) = if c == b then Some cs else None
 
 -- the number of a day that the calendar has
 abbrev pub is_civil_date : ℕ → ℕ → ℕ → Bool
-is_civil_date y m d = (nat_le y 9999 && (nat_le 1 m && nat_le m 12)) && (nat_le 1 d && nat_le d (days_in_month (pos y) m))
+is_civil_date y m d = (nat_le y 9999 && (nat_le 1 m && nat_le m 12)) &&
+    (nat_le 1 d && nat_le d (days_in_month (pos y) m))
 
 unfoldable pub day_number_of : ℕ → ℕ → ℕ → Option ℤ
 day_number_of y m d = if is_civil_date y m d then Some (days_from_civil (pos y) m d) else None
@@ -61,7 +62,9 @@ clock_of text = do
 -- the milliseconds of the fraction, to the end of the text
 unfoldable pub fraction_of : List ℕ → Option ℕ
 fraction_of [] = Some 0
-fraction_of (c ∷ ds) = if (c == 46) && (nat_le 1 (length ds) && (nat_le (length ds) 3 && list_all is_ascii_digit ds)) then Some (value (filled ds)) else None
+fraction_of (c ∷ ds) = if (c == 46) &&
+    (nat_le 1 (length ds) && (nat_le (length ds) 3 && list_all is_ascii_digit ds)) then Some (value (filled ds))
+    else None
 
 unfoldable pub timestamp_of : List ℕ → Option ℤ
 timestamp_of text = do

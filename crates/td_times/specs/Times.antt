@@ -1,4 +1,5 @@
--- The texts of timestamps, `YYYY-MM-DD HH:MM:SS` with one to three digits of a fraction or none, and the milliseconds since 1970 that they say.
+-- The texts of timestamps, `YYYY-MM-DD HH:MM:SS` with one to three digits of a fraction or none, and the milliseconds
+-- since 1970 that they say.
 use Rattle.std.specs.Prelude.{◌≡◌, ℕ, ◌+◌, ◌-◌, ◌*◌, ◌<◌, ◌≤◌, ℤ, pos, ◌+ℤ◌, ◌*ℤ◌, List, [], ◌∷◌, ◌++◌, length, replicate, Result, Ok, Err}
 use Rattle.std.specs.Str.Parse.{AllDigits, digits_value}
 use Rattle.jiff_core.specs.Calendar.{IsCivilDate, days_from_civil}
@@ -61,7 +62,8 @@ day_milliseconds s = ((value s.hour * 60 + value s.minute) * 60 + value s.second
 
 -- the milliseconds since 1970, which are negative before it
 abbrev pub milliseconds : Stamp → ℤ
-milliseconds s = pos 86400000 *ℤ days_from_civil (pos (value s.year)) (value s.month) (value s.day) +ℤ pos (day_milliseconds s)
+milliseconds s = pos 86400000 *ℤ days_from_civil (pos (value s.year)) (value s.month) (value s.day) +ℤ pos
+    (day_milliseconds s)
 
 -- the text is a timestamp's, which says this number
 abbrev pub IsTimestamp : List ℕ → ℤ → Type 0

@@ -11,9 +11,9 @@ ghost use Rattle.td_times.specs.Stamps.{number_of, digits_at, past_byte, day_num
 use crate::fault::TimeFault;
 use jiff_core::civil::Date;
 
-/// The milliseconds since 1970 that a timestamp's text says, read as UTC: `YYYY-MM-DD HH:MM:SS`, with a point and one to
-/// three digits behind it or none. The years are 0000 to 9999, and before 1970 the number is negative. Every other text is
-/// `BadTime`, also one with a day or a time of day that does not exist.
+/// The milliseconds since 1970 that a timestamp's text says, read as UTC: `YYYY-MM-DD HH:MM:SS`, with a point and one
+/// to three digits behind it or none. The years are 0000 to 9999, and before 1970 the number is negative. Every other
+/// text is `BadTime`, also one with a day or a time of day that does not exist.
 pub fn timestamp(text: &[u8]) -> Result<i64, TimeFault>
     ensures says { SaysTime text.now result }
     ensures read { result_ok result ≡ timestamp_of text.now }

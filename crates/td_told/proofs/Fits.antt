@@ -17,6 +17,7 @@ use Rattle.td_model.specs.Built.{is_built}
 use Rattle.td_model.specs.Catalog.{Catalog, table_named}
 use Rattle.td_model.specs.declared.history.Entry.{Entry}
 use Rattle.td_model.specs.State.{State, effect, step}
+use Rattle.td_limits.specs.declared.limits.TheConstants.{LAST_TIMESTAMP}
 use Rattle.td_verdict.specs.Causes.{first_cause, accepted_or}
 use Rattle.td_verdict.specs.Names.{number_or_none, table_schema}
 use Rattle.td_verdict.specs.Queries.{query_cause, passes_or, query_verdict}

@@ -1,6 +1,6 @@
 -- What is true of each catalog that writes make: the names of tables, supertables and targets are apart, each schema is well
 -- formed, and a subtable has a cell for each tag of its supertable.
-use Rattle.std.specs.Prelude.{◌≡◌, ◌≤◌, ◌<◌, ◌+◌, ℕ, Bool, true, false, not, ◌&&◌, nat_le, List, [], ◌∷◌, ◌++◌, map, length, All, Option, Some, None}
+use Rattle.std.specs.Prelude.{◌≡◌, ◌≤◌, ◌+◌, ℕ, Bool, true, false, not, ◌&&◌, nat_le, List, [], ◌++◌, map, length, All, Option, Some, None}
 use Rattle.std.specs.List.{AllZip, list_all}
 use Rattle.std.specs.Option.{option_map_or}
 use Rattle.td_cols.specs.declared.kinds.Kind.{Kind}

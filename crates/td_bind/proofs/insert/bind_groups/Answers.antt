@@ -1,5 +1,5 @@
-use Rattle.std.proofs.Common.{◌≡◌, refl, map, sym, ap, ◌∙◌}
-use Rattle.td_bind.specs.Literals.{said_group, put_said, said_cause}
+use Rattle.std.proofs.Common.{refl, map, sym, ap, ◌∙◌}
+use Rattle.td_bind.specs.Literals.{said_cause}
 use Rattle.td_bind.proofs.Read.{refused_cause, accepted_puts}
 use Rattle.td_bind.proofs.insert.bind_groups.Goals as goal
 

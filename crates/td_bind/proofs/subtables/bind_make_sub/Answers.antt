@@ -1,6 +1,6 @@
-use Rattle.std.proofs.Common.{◌≡◌, sym, ap, ◌∙◌}
+use Rattle.std.proofs.Common.{sym, ap, ◌∙◌}
 use Rattle.std.proofs.lemmas.Bool.{eq-eqb}
-use Rattle.td_bind.specs.Literals.{said_group, tags_said, cells_said}
+use Rattle.td_bind.specs.Literals.{tags_said, cells_said}
 use Rattle.td_bind.proofs.MadeSub.{sub_refused, sub_accepted}
 use Rattle.td_bind.proofs.subtables.bind_make_sub.Goals as goal
 

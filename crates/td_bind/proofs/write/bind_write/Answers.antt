@@ -1,5 +1,3 @@
-use Rattle.std.proofs.Common.{Result}
-use Rattle.std.specs.Result.{IfOk}
 use Rattle.td_bind.proofs.Follows.{answer_follows, answer_edge}
 use Rattle.td_bind.proofs.write.bind_write.Goals as goal
 

@@ -25,7 +25,7 @@ last_target c =
 
 same : (c : goal.After-unwrap-2)
     → record (catalog_of c.self.inside) { streams = values c.insert.new.self; next_stream = c.self.inside.next_stream + 1 }
-      ≡ record c.args.self.now.catalog { streams = c.args.self.now.catalog.streams ++ record { number = c.args.self.now.catalog.next_stream; def = c.args.def } ∷ []; next_stream = c.args.self.now.catalog.next_stream + 1 }
+    ≡ record c.args.self.now.catalog { streams = c.args.self.now.catalog.streams ++ record { number = c.args.self.now.catalog.next_stream; def = c.args.def } ∷ []; next_stream = c.args.self.now.catalog.next_stream + 1 }
 same c =
     ap (λ xs. record (catalog_of c.self.inside) { streams = xs; next_stream = c.self.inside.next_stream + 1 }) (values-pushed c.self.inside.streams.entries c.insert.new.self.entries c.args.key (entry c) (last c))
     ∙ ap (λ k. record k.catalog { streams = k.catalog.streams ++ record { number = k.catalog.next_stream; def = c.args.def } ∷ []; next_stream = k.catalog.next_stream + 1 }) c.self.view_is

@@ -1,6 +1,6 @@
 use Rattle.std.proofs.Common.{◌≡◌, ◌+◌, true, cond, is_some, ap, sym, ◌∙◌, arith}
-use Rattle.std.specs.BTreeMap.{btree_map_len, is_at}
-use Rattle.td_model.specs.State.{key_cmp, is_cut}
+use Rattle.std.specs.BTreeMap.{btree_map_len}
+use Rattle.td_model.specs.State.{is_cut}
 use Rattle.td_rows.proofs.Ranges.{cut_one, cut_none}
 use Rattle.td_rows.proofs.ordered.OrderedRowsRowMap.cut.Goals as goal
 

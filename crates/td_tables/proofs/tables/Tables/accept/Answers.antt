@@ -1,6 +1,5 @@
-use Rattle.std.proofs.Common.{◌+◌, [], ◌∷◌, sym, ap, subst}
-use Rattle.td_catalog.specs.Kept.{CanFollow}
-use Rattle.td_verdict.specs.Sound.{IsFromEdge, IsSound}
+use Rattle.std.proofs.Common.{◌+◌, [], ◌∷◌, sym, subst}
+use Rattle.td_verdict.specs.Sound.{IsSound}
 use Rattle.td_bind.proofs.Steps.{step_sound}
 use Rattle.td_tables.proofs.Subtables.{kept_right}
 use Rattle.td_tables.proofs.Steps.{stepped}

@@ -1,5 +1,4 @@
-use Rattle.std.proofs.Common.{◌∙◌, ap, sym, subst}
-use Rattle.td_verdict.specs.Plans.{plan_of}
+use Rattle.std.proofs.Common.{◌∙◌, ap, subst}
 use Rattle.td_verdict.specs.Sound.{IsSound}
 use Rattle.td_tables.proofs.Answered.{answered}
 use Rattle.td_tables.proofs.tables.Tables.answered.Goals as goal

@@ -1,0 +1,40 @@
+use Rattle.std.proofs.Common.{◌≡◌, ℕ, ◌+◌, ◌-◌, ◌<◌, ◌≤◌, Bool, true, false, List, [], ◌∷◌, ◌++◌, length, Option, Some, None, is_some, is_ok, not, if◌then◌else◌, slice_set, map, remove, arith, refl, sym, ap, ◌∙◌, subst}
+use Rattle.std.specs.Option.{option_map, IsSomeAnd}
+use Rattle.td_outside.specs.Image.{Log, Image}
+use Rattle.td_outside.specs.Files.{after_create, after_abandon, GivesUp, after_finish, Finishes, after_open, after_close, after_remove, after_failed_remove, after_swap, SwapFails}
+use Rattle.td_outside.specs.Logs.{new_log, with_log, after_write, after_sync, after_torn_write, Tears, HasLog, after_log_create, after_failed_log_create, after_log_drop, after_failed_log_drop}
+use Rattle.td_memdev.specs.Kept.{Kept, image_of, log_entry, file_entry, log_of, bytes_of, is_making, readers_of, state_bytes, state_making, state_readers}
+use Rattle.td_memdev.specs.Tables.{IsAt, IsTable}
+use Rattle.td_memdev.specs.Entries.{with_readers, marked}
+use Rattle.td_memdev.specs.Handles.{Writing, Reading}
+use Rattle.td_memdev.specs.declared.logs.LogEntry.{LogEntry}
+use Rattle.td_memdev.specs.declared.files.FileEntry.{FileEntry}
+use Rattle.td_memdev.specs.declared.files.FileState.{FileState}
+use Rattle.td_memdev.specs.declared.files.FileState.TheVariants.{Making, Lost, Finished}
+use Rattle.td_memdev.specs.contracts.store.MemStore.{the_view}
+use Rattle.td_memdev.proofs.Changes.{entry_is, found, edited, table_set, table_remove, with_log_image, tears_image, log_create_image, failed_log_create_image, log_drop_image, failed_log_drop_image, no_drop_image, new_log_entry_image, create_image, finish_image, lost_image, abandon_image, foreign_image, open_image, close_image, close_nothing, remove_image, failed_remove_image, has_log, log_is, state_is}
+use Rattle.td_memdev.proofs.Finding.{IsTable-push, at_end}
+use Rattle.td_memdev.proofs.store.MemStore.entry_for.Goals as goal
+
+pub invariant_of-self-in-None : goal.invariant_of-self-in-None
+invariant_of-self-in-None c =
+    let none : log_entry c.self.inside.logs.items c.args.log ≡ None = subst (λ (xs : List LogEntry). log_entry xs c.args.log ≡ None) c.deref.ensures.value c.in-None.ensures.none in
+    let entry : LogEntry = record { number = c.args.log; log = None; fresh = false; gone = false } in
+    let items : c.push.new.self.items ≡ c.self.inside.logs.items ++ entry ∷ [] = c.in_ok-push-in-None.ensures.items ∙ ap (λ e. c.self.inside.logs.items ++ e ∷ []) c.new.ensures in
+    (subst (λ (xs : List LogEntry). IsTable (λ (e : LogEntry). e.number) xs) (sym items) (IsTable-push (λ (e : LogEntry). e.number) c.args.log c.self.inside.logs.items entry none refl c.self.invariant.0), c.self.invariant.1)
+
+pub returns-in_ok-push-in-None-clause-there : goal.returns-in_ok-push-in-None-clause-there
+returns-in_ok-push-in-None-clause-there c =
+    let none : log_entry c.self.inside.logs.items c.args.log ≡ None = subst (λ (xs : List LogEntry). log_entry xs c.args.log ≡ None) c.deref.ensures.value c.in-None.ensures.none in
+    let entry : LogEntry = record { number = c.args.log; log = None; fresh = false; gone = false } in
+    let items : c.push.new.self.items ≡ c.self.inside.logs.items ++ entry ∷ [] = c.in_ok-push-in-None.ensures.items ∙ ap (λ e. c.self.inside.logs.items ++ e ∷ []) c.new.ensures in
+    at_end (λ (e : LogEntry). e.number) c.args.log c.self.inside.logs.items entry c.push.new.self.items (c.len.result - 1) items (ap (λ l. l - 1) (c.len.ensures ∙ c.push.new.self.ok.0)) none refl
+
+pub returns-in_ok-push-in-None-clause-image : goal.returns-in_ok-push-in-None-clause-image
+returns-in_ok-push-in-None-clause-image c =
+    let none : log_entry c.self.inside.logs.items c.args.log ≡ None = subst (λ (xs : List LogEntry). log_entry xs c.args.log ≡ None) c.deref.ensures.value c.in-None.ensures.none in
+    let entry : LogEntry = record { number = c.args.log; log = None; fresh = false; gone = false } in
+    let items : c.push.new.self.items ≡ c.self.inside.logs.items ++ entry ∷ [] = c.in_ok-push-in-None.ensures.items ∙ ap (λ e. c.self.inside.logs.items ++ e ∷ []) c.new.ensures in
+    let old : Kept = the_view c.self.inside in
+    new_log_entry_image old (record old { logs = c.push.new.self.items }) c.args.log none (record { head = refl; heads = refl; files = refl; logs_are = items })
+    ∙ ap image_of c.self.view_is

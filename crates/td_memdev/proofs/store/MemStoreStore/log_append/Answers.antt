@@ -1,0 +1,59 @@
+use Rattle.std.proofs.Common.{◌≡◌, ℕ, ◌+◌, ◌-◌, ◌<◌, ◌≤◌, Bool, true, false, List, [], ◌∷◌, ◌++◌, length, Option, Some, None, is_some, is_ok, not, if◌then◌else◌, slice_set, map, remove, arith, refl, sym, ap, ◌∙◌, subst}
+use Rattle.std.specs.Option.{option_map, IsSomeAnd}
+use Rattle.td_outside.specs.Image.{Log, Image}
+use Rattle.td_outside.specs.Files.{after_create, after_abandon, GivesUp, after_finish, Finishes, after_open, after_close, after_remove, after_failed_remove, after_swap, SwapFails}
+use Rattle.td_outside.specs.Logs.{new_log, with_log, after_write, after_sync, after_torn_write, Tears, HasLog, after_log_create, after_failed_log_create, after_log_drop, after_failed_log_drop}
+use Rattle.td_memdev.specs.Kept.{Kept, image_of, log_entry, file_entry, log_of, bytes_of, is_making, readers_of, state_bytes, state_making, state_readers}
+use Rattle.td_memdev.specs.Tables.{IsAt, IsTable}
+use Rattle.td_memdev.specs.Entries.{with_readers, marked}
+use Rattle.td_memdev.specs.Handles.{Writing, Reading}
+use Rattle.td_memdev.specs.declared.logs.LogEntry.{LogEntry}
+use Rattle.td_memdev.specs.declared.files.FileEntry.{FileEntry}
+use Rattle.td_memdev.specs.declared.files.FileState.{FileState}
+use Rattle.td_memdev.specs.declared.files.FileState.TheVariants.{Making, Lost, Finished}
+use Rattle.td_memdev.specs.contracts.store.MemStore.{the_view}
+use Rattle.td_memdev.proofs.Changes.{entry_is, found, edited, table_set, table_remove, with_log_image, tears_image, log_create_image, failed_log_create_image, log_drop_image, failed_log_drop_image, no_drop_image, new_log_entry_image, create_image, finish_image, lost_image, abandon_image, foreign_image, open_image, close_image, close_nothing, remove_image, failed_remove_image, has_log, log_is, state_is}
+use Rattle.td_memdev.proofs.store.MemStoreStore.log_append.Goals as goal
+
+pub tear-requires-clause-place : goal.tear-requires-clause-place
+tear-requires-clause-place c =
+    let old : Kept = the_view c.self.inside in
+    let at = subst (λ (k : Kept). IsAt (λ (e : LogEntry). e.number) c.args.log c.log_place-place.result k.logs) (sym c.self.view_is) c.log_place-place.ensures.there in
+    let has : HasLog c.args.log (λ (l : Log). c.args.at ≤ length l.bytes) (image_of old) = subst (λ (k : Kept). HasLog c.args.log (λ (l : Log). c.args.at ≤ length l.bytes) (image_of k)) (sym c.self.view_is) c.requires.within in
+    has_log old.logs c.args.log c.log_place-place.result at c.index_mut.result.now c.index_mut.ensures.value (λ (l : Log). c.args.at ≤ length l.bytes) (λ (l : Log). c.args.at ≤ length l.bytes) (λ l h. h) has
+
+pub invariant_of-self : goal.invariant_of-self
+invariant_of-self c =
+    let at = subst (λ (k : Kept). IsAt (λ (e : LogEntry). e.number) c.args.log c.log_place-place.result k.logs) (sym c.self.view_is) c.log_place-place.ensures.there in
+    let v = edited (λ (e : LogEntry). e.number) c.args.log c.log_place-place.result c.self.inside.logs.items at c.index_mut.result.now c.tear.new.self c.index_mut.ensures.value (λ e. record e { log = option_map (λ log. after_torn_write c.args.at (length c.args.bytes.now) log.bytes log) e.log }) c.tear.ensures in
+    (table_set (λ (e : LogEntry). e.number) c.args.log c.log_place-place.result c.self.inside.logs.items at c.tear.new.self (ap (λ (e : LogEntry). e.number) v ∙ at.number_is) c.self.invariant.0, c.self.invariant.1)
+
+pub returns-then-will_fail-clause-failed : goal.returns-then-will_fail-clause-failed
+returns-then-will_fail-clause-failed c _ =
+    let old : Kept = the_view c.self.inside in
+    let at = subst (λ (k : Kept). IsAt (λ (e : LogEntry). e.number) c.args.log c.log_place-place.result k.logs) (sym c.self.view_is) c.log_place-place.ensures.there in
+    let v = edited (λ (e : LogEntry). e.number) c.args.log c.log_place-place.result c.self.inside.logs.items at c.index_mut.result.now c.tear.new.self c.index_mut.ensures.value (λ e. record e { log = option_map (λ log. after_torn_write c.args.at (length c.args.bytes.now) log.bytes log) e.log }) c.tear.ensures in
+    let has : HasLog c.args.log (λ (l : Log). c.args.at ≤ length l.bytes) (image_of old) = subst (λ (k : Kept). HasLog c.args.log (λ (l : Log). c.args.at ≤ length l.bytes) (image_of k)) (sym c.self.view_is) c.requires.within in
+    subst (λ (k : Kept). Tears c.args.log c.args.at (length c.args.bytes.now) (image_of k) (image_of (record old { logs = slice_set old.logs c.log_place-place.result c.tear.new.self }))) c.self.view_is
+    (tears_image old (record old { logs = slice_set old.logs c.log_place-place.result c.tear.new.self }) c.args.log c.log_place-place.result c.args.at (length c.args.bytes.now) (λ (l : Log). c.args.at ≤ length l.bytes) has at c.tear.new.self v (record { head = refl; heads = refl; files = refl; logs_are = refl }))
+
+pub write-requires : goal.write-requires
+write-requires c =
+    let old : Kept = the_view c.self.inside in
+    let at = subst (λ (k : Kept). IsAt (λ (e : LogEntry). e.number) c.args.log c.log_place-place.result k.logs) (sym c.self.view_is) c.log_place-place.ensures.there in
+    let has : HasLog c.args.log (λ (l : Log). c.args.at ≤ length l.bytes) (image_of old) = subst (λ (k : Kept). HasLog c.args.log (λ (l : Log). c.args.at ≤ length l.bytes) (image_of k)) (sym c.self.view_is) c.requires.within in
+    has_log old.logs c.args.log c.log_place-place.result at c.index_mut-2.result.now c.index_mut-2.ensures.value (λ (l : Log). c.args.at ≤ length l.bytes) (λ (l : Log). c.args.at ≤ length l.bytes) (λ l h. h) has
+
+pub invariant_of-self-2 : goal.invariant_of-self-2
+invariant_of-self-2 c =
+    let at = subst (λ (k : Kept). IsAt (λ (e : LogEntry). e.number) c.args.log c.log_place-place.result k.logs) (sym c.self.view_is) c.log_place-place.ensures.there in
+    let v = edited (λ (e : LogEntry). e.number) c.args.log c.log_place-place.result c.self.inside.logs.items at c.index_mut-2.result.now c.write.new.self c.index_mut-2.ensures.value (λ e. record e { log = option_map (after_write c.args.at c.args.bytes.now) e.log }) c.in_ok-write.ensures.ok in
+    (table_set (λ (e : LogEntry). e.number) c.args.log c.log_place-place.result c.self.inside.logs.items at c.write.new.self (ap (λ (e : LogEntry). e.number) v ∙ at.number_is) c.self.invariant.0, c.self.invariant.1)
+
+pub returns-clause-ok : goal.returns-clause-ok
+returns-clause-ok c =
+    let old : Kept = the_view c.self.inside in
+    let at = subst (λ (k : Kept). IsAt (λ (e : LogEntry). e.number) c.args.log c.log_place-place.result k.logs) (sym c.self.view_is) c.log_place-place.ensures.there in
+    let v = edited (λ (e : LogEntry). e.number) c.args.log c.log_place-place.result c.self.inside.logs.items at c.index_mut-2.result.now c.write.new.self c.index_mut-2.ensures.value (λ e. record e { log = option_map (after_write c.args.at c.args.bytes.now) e.log }) c.in_ok-write.ensures.ok in
+    with_log_image old (record old { logs = slice_set old.logs c.log_place-place.result c.write.new.self }) c.args.log c.log_place-place.result (after_write c.args.at c.args.bytes.now) at c.write.new.self v (record { head = refl; heads = refl; files = refl; logs_are = refl })
+    ∙ ap (λ (k : Kept). with_log c.args.log (after_write c.args.at c.args.bytes.now) (image_of k)) c.self.view_is

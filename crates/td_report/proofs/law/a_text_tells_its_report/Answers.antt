@@ -1,5 +1,0 @@
-use Rattle.td_report.proofs.LineFronts.{tells}
-use Rattle.td_report.proofs.law.a_text_tells_its_report.Goals as goal
-
-pub returns : goal.returns
-returns c = tells

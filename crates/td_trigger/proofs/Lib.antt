@@ -1,0 +1,15 @@
+pub mod Covering
+pub mod CutRanges
+pub mod CutSplice
+pub mod IntervalNumbers
+pub mod IntervalSplice
+pub mod Joining
+pub mod Lists
+pub mod Merging
+pub mod RegionRanges
+pub mod Segments
+pub mod SessionSplice
+pub mod Sorting
+pub mod StateRanges
+pub mod StateSplice
+pub mod Worked

@@ -1,0 +1,4 @@
+pub mod Closing
+pub mod Ranges
+pub mod Regions
+pub mod Splices
