@@ -8,10 +8,11 @@ ghost use Rattle.td_tagidx.specs.Slots.{HasSame};
 ghost use Rattle.td_tagidx.specs.Inside.{IsFiled};
 ghost use Rattle.td_tagidx.specs.Runs.{edges_of};
 
-use crate::cells::{is_comparable, tag_matches};
+use crate::cells::is_comparable;
 use crate::slots::{Edge, Slot, between, put_all, slots_of, tables_of};
 use std::alloc::Global;
 use std::marker::Model;
+use td_cells::tag_matches;
 use td_layer::{Cell, Copied, NoMem, Seq};
 use td_model::Op;
 
@@ -88,7 +89,7 @@ impl TagIndex {
         ensures ready { IfOk result (λ change. IsReadyFor change self.new) }
     {
         self.file()?;
-        let tags = copy_of(self.alloc, tags)?;
+        let tags = Seq::from_vec(self.alloc, Cell::copies(self.alloc, tags)?);
         Ok(TagChange {
             subtable: Subtable { table, tags },
         })
@@ -113,7 +114,7 @@ impl TagIndex {
     {
         let mut numbers = found(self.alloc, &self.subtables, &self.slots, tag, op, lit)?;
         if let Some(last) = &self.last {
-            if tag_matches(&last.tags, tag, op, lit) {
+            if tag_matches(last.tags.as_slice(), tag, op, lit) {
                 numbers.push(last.table)?;
             }
         }
@@ -187,17 +188,6 @@ fn edges_of(op: Op) -> Option<(Edge, Edge)>
     }
 }
 
-// A copy of cells.
-fn copy_of(alloc: Global, cells: &[Cell]) -> Result<Seq<Cell>, NoMem>
-    ensures { IfOk result (λ copies. copies ≡ cells.now) }
-{
-    let mut copies = Vec::new(alloc);
-    for cell in cells {
-        copies.push(cell.copy()?)?;
-    }
-    Ok(Seq::from_vec(alloc, copies))
-}
-
 // The numbers of the subtables whose tag passes, in their order.
 fn picked(
     alloc: Global,
@@ -210,7 +200,7 @@ fn picked(
 {
     let mut numbers = Vec::new(alloc);
     for subtable in subtables {
-        if tag_matches(&subtable.tags, tag, op, lit) {
+        if tag_matches(subtable.tags.as_slice(), tag, op, lit) {
             numbers.push(subtable.table)?;
         }
     }

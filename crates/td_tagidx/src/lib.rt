@@ -7,12 +7,11 @@
 //! Promised: an answer is the filter of all subtables, in number order. No clause speaks of time: the tags lie in the order of
 //! their places and cells, so those that pass `=`, `<`, `<=`, `>` or `>=` lie together, two binary searches find them, and the
 //! rest of the work grows with the answer. For `<>`, IS NULL and IS NOT NULL each subtable is looked at. The crate stands on
-//! `td_model` and `td_layer`.
+//! `td_cells`, `td_model` and `td_layer`.
 #![tactic(auto)]
 
 mod cells;
 mod index;
 mod slots;
 
-pub use cells::tag_matches;
 pub use index::{TagChange, TagIndex};

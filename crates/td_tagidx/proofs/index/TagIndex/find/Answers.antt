@@ -1,5 +1,5 @@
 use Rattle.std.proofs.Common.{ℕ, List, map, sum_by, sym, ap, ◌∙◌}
-use Rattle.td_model.specs.Tags.{matching}
+use Rattle.td_model.specs.Tags.{matching, tag_matches}
 use Rattle.td_tagidx.specs.Indexed.{Subtables}
 use Rattle.td_tagidx.specs.Slots.{HasSame}
 use Rattle.td_tagidx.specs.Subtables.{subtable_of}
@@ -18,10 +18,10 @@ same c =
     elim c.match-self.branch [
       | in-Some+then-tag_matches+in_ok-push w ↦ λ f.
           ap (λ v. sum_by f v.items) w.numbers-is ∙ ap (λ zs. sum_by f zs) w.in_ok-push.ensures.items
-          ∙ same_added c.args.tag c.args.op c.args.lit.now c.self.inside.last es xs (filed c) w.in-Some.last w.in-Some.is (c.self.invariant.apart w.in-Some.last w.in-Some.is) (sym w.tag_matches.ensures ∙ w.if-tag_matches.true) f
+          ∙ same_added c.args.tag c.args.op c.args.lit.now c.self.inside.last es xs (filed c) w.in-Some.last w.in-Some.is (c.self.invariant.apart w.in-Some.last w.in-Some.is) (sym (w.tag_matches.ensures ∙ ap (tag_matches c.args.tag c.args.op c.args.lit.now) w.as_slice.ensures) ∙ w.if-tag_matches.true) f
       | in-Some+else-tag_matches w ↦ λ f.
           ap (λ v. sum_by f v.items) w.numbers-is
-          ∙ same_left c.args.tag c.args.op c.args.lit.now c.self.inside.last es xs (filed c) w.in-Some.last w.in-Some.is (c.self.invariant.apart w.in-Some.last w.in-Some.is) (sym w.tag_matches.ensures ∙ w.if-tag_matches.false) f
+          ∙ same_left c.args.tag c.args.op c.args.lit.now c.self.inside.last es xs (filed c) w.in-Some.last w.in-Some.is (c.self.invariant.apart w.in-Some.last w.in-Some.is) (sym (w.tag_matches.ensures ∙ ap (tag_matches c.args.tag c.args.op c.args.lit.now) w.as_slice.ensures) ∙ w.if-tag_matches.false) f
       | in_default w ↦ λ f.
           ap (λ v. sum_by f v.items) w.numbers-is
           ∙ same_alone c.args.tag c.args.op c.args.lit.now c.self.inside.last es xs (filed c) w.in_default.is f
