@@ -1,7 +1,7 @@
 //! [base] A persistent ordered tree: items by key, shared without copying.
 //!
 //! [`Tree`] is seen as the list of its pairs in the order of their keys. Its nodes stand behind counted pointers, so that
-//! `share` gives the same tree at once, and a tree that changes copies only nodes that another tree holds too: whoever
+//! `share` gives the same tree at once, and a change gives a new tree of which only the nodes down to the key are new: whoever
 //! holds a share still sees the pairs as they were. Each node weighs its two sides, of which neither is more than three
 //! times as heavy as the other; so a tree of n pairs is at most 75 levels deep, and a change or a look-up touches a
 //! number of nodes that grows with the logarithm of n.
