@@ -1,9 +1,9 @@
 -- What is true of ranges put in order and joined, by what is true of each.
-use Rattle.std.proofs.Common.{◌≡◌, ◌⊎◌, ℕ, ◌+◌, ◌<◌, ◌≤◌, Bool, true, false, ◌&&◌, cond, List, [], ◌∷◌, map, refl, arith, leb, inl, inr}
-use Rattle.std.proofs.lemmas.Bool.{leb-true, leb-false, le-leb, and_parts, and_from, or_cases, or_left, or_right, cases_Bool}
+use Rattle.std.proofs.Common.{◌≡◌, ◌⊎◌, ℕ, ◌+◌, ◌<◌, ◌≤◌, Bool, true, false, ◌&&◌, cond, List, [], ◌∷◌, refl, arith, leb, inl, inr}
+use Rattle.std.proofs.lemmas.Bool.{leb-true, leb-false, le-leb, and_parts, and_from, or_cases, or_left, or_right}
 use Rattle.std.specs.List.{AllByRecursion, list_any}
 use Rattle.td_trigger.specs.declared.range.Range.{Range}
-use Rattle.td_trigger.specs.Ranges.{hull, holds, covers, comes_first, put_in_order, in_order, joined_to, joined, IsRange, AreApart}
+use Rattle.td_trigger.specs.Ranges.{hull, comes_first, put_in_order, in_order, joined_to, joined, IsRange, AreApart}
 use Rattle.td_trigger.proofs.Lists.{each_weaker}
 use Rattle.td_trigger.proofs.Sorting.{Le, InOrder, all_ordered, put_each}
 

@@ -1,14 +1,14 @@
 -- The ranges of timestamps of windows that are cut from rows in order.
-use Rattle.std.proofs.Common.{◌≡◌, ◌⊎◌, ℕ, zero, suc, ◌+◌, ◌-◌, ◌<◌, ◌≤◌, pos, leb, Bool, true, false, not, ◌&&◌, cond, List, [], ◌∷◌, ◌++◌, map, filter, refl, sym, ap, ◌∙◌, subst, arith, inl, inr}
-use Rattle.std.proofs.lemmas.Bool.{leb-true, le-leb, and_parts, and_from, or_cases, not-true, not-false, not_from_false, false_from_ne_true, both_ways}
-use Rattle.std.specs.List.{AllByRecursion, list_any}
-use Rattle.td_window.specs.Windows.{Window, cut, led_by, last_of, window_of_group}
+use Rattle.std.proofs.Common.{◌≡◌, ◌⊎◌, ℕ, ◌+◌, ◌<◌, ◌≤◌, Bool, true, false, not, cond, List, [], ◌∷◌, ◌++◌, map, filter, refl, sym, ap, ◌∙◌, subst, arith, inl, inr}
+use Rattle.std.proofs.lemmas.Bool.{or_cases, not-true, not_from_false, false_from_ne_true, both_ways}
+use Rattle.std.specs.List.{AllByRecursion}
+use Rattle.td_window.specs.Windows.{cut, led_by, last_of}
 use Rattle.td_trigger.specs.declared.range.Range.{Range}
 use Rattle.td_trigger.specs.Ranges.{hull, holds, taking_in, in_order, joined, IsRange, AreApart}
 use Rattle.td_trigger.specs.Splices.{is_touched, untouched}
-use Rattle.td_trigger.proofs.Lists.{each_weaker, each_map, each_both, each_by_filter, each_passing, two_of_each, filter_alike, filter_of_filter_on, In, at_in, each_in_itself}
+use Rattle.td_trigger.proofs.Lists.{each_weaker, each_map, each_both, each_passing, filter_alike, filter_of_filter_on, In, each_in_itself}
 use Rattle.td_trigger.proofs.Covering.{Within, within_any, within_region}
-use Rattle.td_trigger.proofs.CutSplice.{DontFall, each_group, windows, head_of_cut}
+use Rattle.td_trigger.proofs.CutSplice.{DontFall, each_group, head_of_cut}
 
 -- ---- ranges that lie apart
 -- a timestamp outside a range lies more than so far from it

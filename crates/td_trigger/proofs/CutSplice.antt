@@ -1,16 +1,16 @@
 -- Windows cut from rows in order: how they divide where rows divide, and how they are spliced.
-use Rattle.std.proofs.Common.{◌≡◌, ◌⊎◌, ℕ, zero, suc, ◌+◌, ◌-◌, ◌<◌, ◌≤◌, ℤ, pos, ◌<ℤ◌, ◌≤ℤ◌, leb, ltb, Bool, true, false, not, ◌&&◌, ◌||◌, cond, List, [], ◌∷◌, ◌++◌, map, filter, refl, sym, ap, ◌∙◌, subst, arith, inl, inr}
+use Rattle.std.proofs.Common.{◌≡◌, ◌⊎◌, ℕ, ◌+◌, ◌<◌, ◌≤◌, pos, ◌<ℤ◌, ◌≤ℤ◌, leb, ltb, Bool, true, false, not, ◌&&◌, cond, List, [], ◌∷◌, ◌++◌, map, filter, refl, sym, ap, ◌∙◌, subst, arith, inl, inr}
 use Rattle.std.proofs.lemmas.Int.{ints}
-use Rattle.std.proofs.lemmas.Bool.{leb-true, leb-false, le-leb, lt-leb, lt-ltb, le-ltb, ltb-true, ltb-false, and_parts, and_from, and_left, and_right, or_from, cases_lt, cases_Bool, not-true, not_from_false, both_ways}
+use Rattle.std.proofs.lemmas.Bool.{leb-true, le-leb, lt-leb, lt-ltb, le-ltb, ltb-true, and_parts, and_from, and_left, and_right, or_from, cases_lt, not_from_false}
 use Rattle.std.proofs.lemmas.List.{append-nil, append_assoc, map-append}
 use Rattle.std.proofs.lemmas.List.Elements.{filter-append}
-use Rattle.std.specs.List.{AllByRecursion, list_any, flat_map}
+use Rattle.std.specs.List.{AllByRecursion, list_any}
 use Rattle.td_window.specs.Windows.{Window, cut, led_by, last_of, window_of_group}
 use Rattle.td_trigger.specs.declared.range.Range.{Range}
-use Rattle.td_trigger.specs.Ranges.{holds, covers, IsRange, AreApart}
+use Rattle.td_trigger.specs.Ranges.{holds, IsRange, AreApart}
 use Rattle.td_trigger.specs.Regions.{from_0}
 use Rattle.td_trigger.specs.Splices.{is_touched, untouched, rows_in, kept, made, put_all_by_start}
-use Rattle.td_trigger.proofs.Lists.{each_weaker, each_append, each_both, each_filter, each_map, each_true, filter_every, filter_none, filter_of_filter, filter_alike, filter_twice, filter_agrees, In, each_in_itself}
+use Rattle.td_trigger.proofs.Lists.{each_weaker, each_append, each_filter, each_map, each_true, filter_every, filter_none, filter_of_filter, filter_alike, filter_twice, filter_agrees}
 use Rattle.td_trigger.proofs.Merging.{StartsDontFall, put_alone, put_all_front, put_all-append, put_all_past, put_windows_each}
 
 and_true : (b : Bool) → b ≡ (b && true)

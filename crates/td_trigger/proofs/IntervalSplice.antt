@@ -1,16 +1,15 @@
 -- Why interval windows are spliced.
-use Rattle.std.proofs.Common.{◌≡◌, ◌≢◌, ◌⊎◌, ℕ, zero, suc, ◌+◌, ◌-◌, ◌<◌, ◌≤◌, ℤ, pos, negsuc, ◌+ℤ◌, ◌<ℤ◌, ◌≤ℤ◌, int_le, int_lt, leb, Bool, true, false, not, ◌&&◌, ◌||◌, List, [], ◌∷◌, ◌++◌, map, filter, refl, sym, ap, ◌∙◌, subst, arith, inl, inr, Contains}
+use Rattle.std.proofs.Common.{◌≡◌, ◌≢◌, ◌⊎◌, ℕ, ◌+◌, ◌-◌, ◌<◌, ◌≤◌, ℤ, pos, negsuc, ◌+ℤ◌, ◌<ℤ◌, ◌≤ℤ◌, int_le, int_lt, leb, Bool, true, false, not, ◌&&◌, List, [], ◌∷◌, ◌++◌, map, filter, refl, sym, ap, ◌∙◌, subst, arith, inl, inr, Contains}
 use Rattle.std.proofs.lemmas.Int.{ints}
-use Rattle.std.proofs.lemmas.Bool.{leb-true, le-leb, and_parts, and_from, or_cases, or_left, or_right, not-true, not_from_false, both_ways, cases_Bool, false_from_ne_true}
-use Rattle.std.specs.List.{AllByRecursion, list_any, flat_map}
-use Rattle.td_model.specs.declared.language.WindowDef.{WindowDef}
+use Rattle.std.proofs.lemmas.Bool.{leb-true, le-leb, and_parts, and_from, or_cases, or_left, or_right, not-true, not_from_false, both_ways, false_from_ne_true}
+use Rattle.std.specs.List.{AllByRecursion, list_any}
 use Rattle.td_model.specs.declared.language.WindowDef.TheVariants.{Interval}
-use Rattle.td_window.specs.Windows.{Window, is_within, interval_window, IsStart, StartsRise, IsIntervalWindow, AreIntervalWindows}
+use Rattle.td_window.specs.Windows.{Window, is_within, IsStart, StartsRise, IsIntervalWindow, AreIntervalWindows}
 use Rattle.td_trigger.specs.declared.range.Range.{Range}
-use Rattle.td_trigger.specs.Ranges.{holds, covers, in_order, joined, IsRange, AreApart}
-use Rattle.td_trigger.specs.Regions.{from_0, widened, widened_interval, region}
-use Rattle.td_trigger.specs.Splices.{is_touched, untouched, rows_in, is_inside, kept, made, put_all_by_start, spliced, regions_over, IsChange, IntervalsSplice}
-use Rattle.td_trigger.proofs.Lists.{each_weaker, each_append, each_filter, each_both, filter_of_filter, filter_alike, In, at_in, in_filter, in_left, in_right, in_contains, contains_in}
+use Rattle.td_trigger.specs.Ranges.{holds, in_order, joined, AreApart}
+use Rattle.td_trigger.specs.Regions.{from_0, widened_interval}
+use Rattle.td_trigger.specs.Splices.{is_touched, rows_in, is_inside, kept, made, put_all_by_start, IsChange}
+use Rattle.td_trigger.proofs.Lists.{each_weaker, each_append, each_filter, filter_of_filter, filter_alike, In, in_filter, in_left, in_right, in_contains, contains_in}
 use Rattle.td_trigger.proofs.Covering.{Within, within_any, within_region, regions_apart}
 use Rattle.td_trigger.proofs.IntervalNumbers.{lies_in_widened}
 use Rattle.td_trigger.proofs.Merging.{put_windows_each, put_all_rises, in_put_left, in_put_right}

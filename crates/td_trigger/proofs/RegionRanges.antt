@@ -1,5 +1,5 @@
 -- Each region begins at or before its end.
-use Rattle.std.proofs.Common.{◌≡◌, ℕ, ◌+◌, ◌<◌, ◌≤◌, leb, ◌&&◌, List, [], ◌∷◌, map, filter, All, arith}
+use Rattle.std.proofs.Common.{◌+◌, leb, ◌&&◌, List, map, filter, All, arith}
 use Rattle.std.proofs.lemmas.List.Elements.{recursion_from_All}
 use Rattle.std.specs.List.{AllByRecursion}
 use Rattle.td_model.specs.declared.language.WindowDef.{WindowDef}

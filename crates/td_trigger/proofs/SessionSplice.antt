@@ -1,16 +1,15 @@
 -- Why sessions are spliced.
-use Rattle.std.proofs.Common.{◌≡◌, ◌⊎◌, ℕ, ◌+◌, ◌-◌, ◌<◌, ◌≤◌, leb, ltb, Bool, true, false, not, ◌&&◌, cond, List, [], ◌∷◌, ◌++◌, map, filter, refl, sym, ap, ◌∙◌, subst, arith, inl, inr}
+use Rattle.std.proofs.Common.{◌≡◌, ◌⊎◌, ℕ, ◌+◌, ◌-◌, ◌<◌, ◌≤◌, leb, ltb, Bool, true, false, not, ◌&&◌, cond, List, [], ◌∷◌, ◌++◌, map, filter, refl, sym, ap, subst, arith, inl, inr}
 use Rattle.std.proofs.lemmas.Bool.{leb-true, leb-false, lt-ltb, ltb-true, and_parts, and_cases, not-false}
 use Rattle.std.specs.List.{AllByRecursion}
 use Rattle.std.specs.List.Sorted.{IsNonDecreasingBy}
-use Rattle.td_model.specs.declared.language.WindowDef.{WindowDef}
 use Rattle.td_model.specs.declared.language.WindowDef.TheVariants.{Session}
-use Rattle.td_window.specs.Windows.{Window, cut, window_of_group, session_windows}
+use Rattle.td_window.specs.Windows.{cut, window_of_group, session_windows}
 use Rattle.td_trigger.specs.declared.range.Range.{Range}
 use Rattle.td_trigger.specs.Ranges.{holds, taking_in, in_order, joined, IsRange, AreApart}
-use Rattle.td_trigger.specs.Regions.{widened, widened_session, region}
-use Rattle.td_trigger.specs.Splices.{is_touched, untouched, rows_in, window_reach, spliced, regions_over, IsChange, SessionsSplice}
-use Rattle.td_trigger.proofs.Lists.{each_weaker, each_map, each_both, each_by_filter, each_passing, two_of_each, first_is_least, rest_in_order}
+use Rattle.td_trigger.specs.Regions.{widened_session, region}
+use Rattle.td_trigger.specs.Splices.{is_touched, rows_in, window_reach, spliced, SessionsSplice}
+use Rattle.td_trigger.proofs.Lists.{each_weaker, each_map, each_by_filter, each_passing, two_of_each, first_is_least, rest_in_order}
 use Rattle.td_trigger.proofs.Covering.{Within, regions_apart, regions_are_ranges, each_region}
 use Rattle.td_trigger.proofs.CutSplice.{CutAt, CutAtEach, cuts_splice}
 use Rattle.td_trigger.proofs.CutRanges.{SpacedAt, spaced_both, spaced_within, apart_weaker, taking_in_reaches, taking_in_within, taking_in_each, touched_in_region, same_outside, Ordered, ranges, range_of, ordered_dont_fall, ranges_are, ranges_apart, rows_in_ranges}

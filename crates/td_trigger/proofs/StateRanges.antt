@@ -1,17 +1,15 @@
 -- Which old state windows a touched range takes in.
-use Rattle.std.proofs.Common.{◌≡◌, ◌⊎◌, ℕ, zero, suc, ◌+◌, ◌-◌, ◌<◌, ◌≤◌, leb, ltb, Bool, true, false, not, ◌&&◌, List, [], ◌∷◌, ◌++◌, map, filter, take, drop, length, refl, sym, ap, ◌∙◌, subst, arith, inl, inr}
-use Rattle.std.proofs.lemmas.Bool.{leb-true, leb-false, le-leb, lt-leb, lt-ltb, le-ltb, and_parts, and_cases, and_from, or_cases, cases_lt}
-use Rattle.std.proofs.lemmas.List.{drop_at, length-append, append_assoc}
+use Rattle.std.proofs.Common.{◌≡◌, ◌⊎◌, ℕ, ◌+◌, ◌-◌, ◌<◌, ◌≤◌, leb, ltb, Bool, true, false, ◌&&◌, List, [], ◌∷◌, ◌++◌, filter, length, refl, sym, ap, ◌∙◌, subst, arith, inl, inr}
+use Rattle.std.proofs.lemmas.Bool.{leb-true, leb-false, le-leb, lt-ltb, le-ltb, and_parts, and_cases, and_from, or_cases, cases_lt}
+use Rattle.std.proofs.lemmas.List.{drop_at, length-append}
 use Rattle.std.proofs.lemmas.List.Elements.{filter-append}
 use Rattle.std.specs.List.{AllByRecursion}
 use Rattle.td_limits.specs.declared.limits.TheConstants.{LAST_TIMESTAMP}
 use Rattle.td_trigger.specs.declared.range.Range.{Range}
-use Rattle.td_trigger.specs.Ranges.{hull, holds, taking_in, in_order, joined, IsRange, AreApart}
-use Rattle.td_trigger.specs.Regions.{all_time, widened_state, state_neighbours, first_of, last_of}
+use Rattle.td_trigger.specs.Ranges.{hull, holds, taking_in, IsRange, AreApart}
+use Rattle.td_trigger.specs.Regions.{widened_state, state_neighbours, first_of, last_of}
 use Rattle.td_trigger.specs.Splices.{is_touched}
-use Rattle.td_trigger.proofs.Lists.{each_weaker, each_append, each_both, each_passing, each_take, each_drop, filter_none, In, at_in, in_filter, in_left, in_right, in_middle, each_in_itself}
-use Rattle.td_trigger.proofs.Segments.{some_old}
-use Rattle.td_trigger.proofs.Covering.{Within}
+use Rattle.td_trigger.proofs.Lists.{each_weaker, each_append, each_both, each_passing, each_take, each_drop, filter_none, In, in_filter, in_left, in_right, in_middle, each_in_itself}
 use Rattle.td_trigger.proofs.CutRanges.{taking_in_reaches, taking_in_each}
 
 pub taking_in_in : (v r : Range) (rs : List Range) → In v rs → ((taking_in r rs).lo ≤ v.lo) × (v.hi ≤ (taking_in r rs).hi)

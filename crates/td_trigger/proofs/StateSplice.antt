@@ -1,20 +1,19 @@
 -- Why state windows are spliced.
 use mathlib.Core.Path.{fun_ext}
-use Rattle.std.proofs.Common.{◌≡◌, ◌⊎◌, ℕ, zero, suc, ◌+◌, ◌-◌, ◌<◌, ◌≤◌, leb, ltb, Bool, true, false, not, ◌&&◌, cond, List, [], ◌∷◌, ◌++◌, map, filter, length, slice_index, All, refl, sym, ap, ◌∙◌, subst, arith, inl, inr}
-use Rattle.std.proofs.lemmas.Bool.{leb-true, leb-false, lt-ltb, ltb-true, and_parts, and_cases, not-true, not-false, not_from_false, false_from_ne_true, cases_lt}
+use Rattle.std.proofs.Common.{◌≡◌, ◌⊎◌, ℕ, suc, ◌+◌, ◌<◌, ◌≤◌, leb, Bool, true, false, not, List, [], ◌∷◌, ◌++◌, map, filter, slice_index, refl, sym, ap, ◌∙◌, subst, arith, inl, inr}
+use Rattle.std.proofs.lemmas.Bool.{leb-true, and_parts, not-false, not_from_false, false_from_ne_true, cases_lt}
 use Rattle.std.proofs.lemmas.List.{append-nil, append_assoc}
 use Rattle.std.proofs.lemmas.List.Elements.{recursion_from_All, filter-append}
 use Rattle.std.specs.List.{AllByRecursion}
 use Rattle.std.specs.List.Sorted.{IsStrictlyIncreasing}
 use Rattle.td_layer.specs.declared.values.Value.{Value}
 use Rattle.td_limits.specs.declared.limits.TheConstants.{LAST_TIMESTAMP}
-use Rattle.td_model.specs.declared.language.WindowDef.{WindowDef}
 use Rattle.td_model.specs.declared.language.WindowDef.TheVariants.{State}
 use Rattle.td_window.specs.Windows.{Window, cut, window_of_group, isnt_null, is_same_state, state_windows}
 use Rattle.td_trigger.specs.declared.range.Range.{Range}
-use Rattle.td_trigger.specs.Ranges.{holds, taking_in, in_order, joined, IsRange, AreApart}
-use Rattle.td_trigger.specs.Regions.{widened, widened_state, all_time, region}
-use Rattle.td_trigger.specs.Splices.{is_touched, untouched, rows_in, window_reach, spliced, regions_over, IsChange, StatesSplice}
+use Rattle.td_trigger.specs.Ranges.{holds, in_order, joined, IsRange, AreApart}
+use Rattle.td_trigger.specs.Regions.{widened_state, region}
+use Rattle.td_trigger.specs.Splices.{is_touched, untouched, rows_in, window_reach, spliced, StatesSplice}
 use Rattle.td_trigger.proofs.Lists.{each_weaker, each_append, each_map, each_of_map, each_both, each_by_filter, each_passing, each_middle, each_front, each_back, each_in_itself, two_of_each, filter_swap, each_true, in_filter, In, at_in}
 use Rattle.td_trigger.proofs.Covering.{Within, regions_apart, regions_are_ranges, each_region, back_from_region}
 use Rattle.td_trigger.proofs.CutSplice.{CutAt, CutAtEach, windows, cuts_splice}

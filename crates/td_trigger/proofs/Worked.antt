@@ -1,12 +1,11 @@
 -- Worked rows, which the checker computes.
-use Rattle.std.proofs.Common.{◌≡◌, ℕ, pos, negsuc, Option, Some, None, Bool, true, false, List, [], ◌∷◌, refl}
+use Rattle.std.proofs.Common.{◌≡◌, ℕ, pos, Some, None, true, false, List, [], ◌∷◌, refl}
 use Rattle.td_layer.specs.declared.values.Value.{Value}
-use Rattle.td_layer.specs.declared.values.Value.TheVariants.{Null, Num}
-use Rattle.td_model.specs.declared.language.WindowDef.{WindowDef}
+use Rattle.td_layer.specs.declared.values.Value.TheVariants.{Num}
 use Rattle.td_model.specs.declared.language.WindowDef.TheVariants.{Interval, Session, State}
 use Rattle.td_window.specs.Windows.{Window, session_windows, state_windows}
 use Rattle.td_trigger.specs.declared.range.Range.{Range}
-use Rattle.td_trigger.specs.Closing.{is_closed, is_due}
+use Rattle.td_trigger.specs.Closing.{is_closed}
 use Rattle.td_trigger.specs.Regions.{region}
 use Rattle.td_trigger.specs.Splices.{spliced, regions_over, rows_in}
 

@@ -9,7 +9,7 @@ use Rattle.td_model.specs.declared.language.WindowDef.TheVariants.{Interval, Ses
 use Rattle.td_window.specs.Windows.{Window, AreIntervalWindows, session_windows, state_windows}
 use Rattle.td_trigger.specs.declared.range.Range.{Range}
 use Rattle.td_trigger.specs.Ranges.{holds, covers, IsRange}
-use Rattle.td_trigger.specs.Regions.{reach, region, IsGrouped}
+use Rattle.td_trigger.specs.Regions.{reach, region}
 
 -- ---- rows
 

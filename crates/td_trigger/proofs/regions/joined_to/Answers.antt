@@ -1,4 +1,4 @@
-use Rattle.std.proofs.Common.{◌≡◌, ◌+◌, ◌<◌, ◌++◌, ◌∷◌, [], drop, get_or, ap, ◌∙◌, arith}
+use Rattle.std.proofs.Common.{◌≡◌, get_or, ◌∙◌, arith}
 use Rattle.td_trigger.specs.declared.range.Range.{Range}
 use Rattle.td_trigger.specs.Ranges.{hull}
 use Rattle.td_trigger.proofs.Joining.{joins, begins}
