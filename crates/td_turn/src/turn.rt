@@ -1,0 +1,141 @@
+//! The turn, its passes, and the value while it is held.
+ghost use Rattle.std.specs.Prelude.{◌≡◌, ◌+◌, ◌-◌, ◌^◌, ◌<◌, ◌≤◌, [], ◌++◌, length, ℕ, None, IfOk, IfErr};
+ghost use mathlib.Core.List.{IsPrefix};
+ghost use Rattle.td_turn.specs.Passes.{IsPassOf, IsHeldOf, GoesOn, versions_after, times, longer};
+
+use crate::rule::{Count, Cut, Draw, Law, Merge, PassOn, Tell, View, Watch};
+use crate::turned::Turned;
+use atomic_table::{Seat, Table};
+use std::alloc::Global;
+use std::marker::Model;
+use std::snapshot::Snapshot;
+use std::sync::Wait;
+use td_layer::NoMem;
+use td_limits::PASS_PARTS;
+
+/// Which word is the front, how many entries the history has.
+const FRONT: usize = 0;
+
+/// Which word is the number of tickets that were drawn.
+const TICKETS: usize = 1;
+
+/// Which word is the ticket that is served.
+const SERVING: usize = 2;
+
+/// Who may have the value, one after another. Contracts see its name and the base of its value.
+pub struct Turn<V: Turned> {
+    table: Table<Option<V>, View<V::Base, V::Entry>, Snapshot<V>, Law, Global>,
+}
+
+impl<V: Turned> Model for Turn<V> {
+    ghost use Rattle.std.specs.Prelude.{◌≡◌};
+    ghost use Rattle.td_turn.specs.Passes.{TurnShown, coded_turn};
+
+    ghost Value = { TurnShown V.Base };
+
+    ghost coded = { coded_turn V.Base.code };
+
+    ghost view = { λ t. record { name = t.table.shared.table_id; base = V.base t.table.shared.key.value } };
+
+    ghost invariant = { λ t. (t.table.shared.table_id.words ≡ 3) × (t.table.shared.table_id.slots ≡ 1) };
+}
+
+/// What its holder has seen, the versions that it notes, and how many parts of the whole it is. It has no bytes.
+pub struct Pass<V: Turned> {
+    seat: Seat<Option<V>, View<V::Base, V::Entry>>,
+}
+
+impl<V: Turned> Model for Pass<V> {
+    ghost use Rattle.std.specs.Prelude.{◌≡◌, ◌<◌, []};
+    ghost use Rattle.td_turn.specs.Passes.{PassShown, coded_pass};
+    ghost use Rattle.td_turn.specs.declared.rule.Stage.TheVariants.{Idle};
+
+    ghost Value = { PassShown V.Base V.Entry };
+
+    ghost coded = { coded_pass V.Base.code V.Entry.code };
+
+    ghost view = { λ p. record { name = p.seat.table_id; base = p.seat.me.0.base; seen = p.seat.me.0.seen; versions = p.seat.me.0.versions; parts = p.seat.me.0.parts } };
+
+    ghost invariant = { λ p. (p.seat.me.1 ≡ []) × (p.seat.me.0.stage ≡ Idle) × (0 < p.seat.me.0.parts) };
+}
+
+/// The value while it is held, with the pass that it was taken with. It is given back by [`Turn::give`].
+pub struct Held<V: Turned> {
+    seat: Seat<Option<V>, View<V::Base, V::Entry>>,
+    value: V,
+}
+
+impl<V: Turned> Model for Held<V> {
+    ghost use Rattle.std.specs.Prelude.{◌≡◌, ◌<◌, [], ◌∷◌, None, ℕ};
+    ghost use Rattle.td_turn.specs.Passes.{HeldShown, coded_held};
+    ghost use Rattle.td_turn.specs.declared.rule.Stage.TheVariants.{Holds};
+
+    ghost Value = { HeldShown V V.Base V.Entry };
+
+    ghost coded = { coded_held V.code V.Base.code V.Entry.code };
+
+    ghost view = { λ h. record { name = h.seat.table_id; base = h.seat.me.0.base; taken = h.seat.me.0.seen; versions = h.seat.me.0.versions; parts = h.seat.me.0.parts; value = h.value } };
+
+    ghost invariant = { λ h. (h.seat.me.1 ≡ (0, None) ∷ []) × ((t : ℕ) × (h.seat.me.0.stage ≡ Holds t)) × (0 < h.seat.me.0.parts) };
+}
+
+impl<V: Turned> Turn<V> {
+    /// Splits one part of a pass off. The new pass has seen the same, and notes no version.
+    pub fn split(&self, pass: Pass<V>) -> (Pass<V>, Pass<V>)
+        requires turn { IsPassOf self.now pass }
+        requires parts { 2 ≤ pass.parts }
+        ensures kept { result.0 ≡ record pass { parts = pass.parts - 1 } }
+        ensures new { result.1 ≡ record pass { versions = []; parts = 1 } }
+    {
+        let Pass { mut seat } = pass;
+        let new = self.table.shared.split_seat::<Cut>(&mut seat);
+        (Pass { seat }, Pass { seat: new })
+    }
+
+    /// Joins two passes into one, with the parts of both. It has seen what either has seen, and notes the versions of
+    /// both.
+    pub fn join(&self, a: Pass<V>, b: Pass<V>) -> Pass<V>
+        requires turn { IsPassOf self.now a × IsPassOf self.now b }
+        ensures turn { IsPassOf self.now result }
+        ensures longer { result.seen ≡ longer a.seen b.seen }
+        ensures begins { IsPrefix a.seen result.seen × IsPrefix b.seen result.seen }
+        ensures versions { result.versions ≡ a.versions ++ b.versions }
+        ensures parts { result.parts ≡ a.parts + b.parts }
+    {
+        let Pass { mut seat } = a;
+        let Pass { seat: other } = b;
+        let table = &self.table.shared;
+        table.join_seat::<Merge>(&mut seat, other);
+        table.load::<Tell>(&mut seat, FRONT);
+        Pass { seat }
+    }
+
+    /// Gives the value back, with `entries` further entries in its list.
+    pub fn give(&self, held: Held<V>, entries: u64) -> Pass<V>
+        requires turn { IsHeldOf self.now held }
+        requires base { V.base held.value ≡ self.now.base }
+        requires list { GoesOn entries held.taken (V.list held.value) }
+        requires room { V.first self.now.base + length (V.list held.value) < 2 ^ 64 }
+        ensures turn { IsPassOf self.now result }
+        ensures seen { result.seen ≡ V.list held.value }
+        ensures versions { result.versions ≡ held.versions ++ versions_after (V.first self.now.base + length held.taken) entries }
+        ensures parts { result.parts ≡ held.parts }
+    {
+        let Held { mut seat, value } = held;
+        let table = &self.table.shared;
+        fill(table.exchange(&mut seat, 0, Some(value)));
+        table.fetch_add::<Count>(&mut seat, FRONT, entries);
+        let served = table.fetch_add::<PassOn>(&mut seat, SERVING, 1);
+        if table.peek(TICKETS) != served.wrapping_add(1) {
+            table.wake_all(SERVING);
+        }
+        Pass { seat }
+    }
+}
+
+// Ends the hole that the value left in its slot.
+fn fill<V>(hole: Option<V>)
+    requires { hole ≡ None }
+{
+    let None = hole else { unreachable!() };
+}
