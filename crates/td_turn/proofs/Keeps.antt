@@ -1,6 +1,6 @@
 -- Drawing a ticket, watching the number that is served, counting the front, passing on and looking at the front keep the rule.
 use Rattle.std.proofs.Common.{◌≡◌, ◌≢◌, ◌⊎◌, ℕ, zero, suc, ◌+◌, ◌-◌, ◌^◌, ◌%◌, ◌<◌, ◌≤◌, eqb, List, [], ◌∷◌, ◌++◌, length, set, get_or, slice_index, refl, ap, sym, ◌∙◌, subst, inl, inr, ⊎_elim, arith, length-append, mod-eq_of_lt}
-use Rattle.std.specs.Prelude.{Option, Some, None}
+use Rattle.std.specs.Prelude.{Option, Some, None, nat_eq}
 use mathlib.Core.Option.{some, none, some-injective, some-ne-none}
 use mathlib.Core.Option as maybe
 use mathlib.Core.List.{IsPrefix}
@@ -184,21 +184,128 @@ module _ {S B E : Type 0} (base_of : S → B) (first_of : B → ℕ) (list_of : 
   counts n id k me ticket x new holds part based carries grows long room s r wide at _ =
       (counted_view (front_of base_of first_of list_of me.0) k (list_in base_of first_of list_of me.1) me.0, keeps, tt, counted, (refl, refl))
     where
-      front : ℕ
-      front = front_of base_of first_of list_of me.0
-
-      list : List E
-      list = list_in base_of first_of list_of me.1
-
-      w : View B E
-      w = counted_view front k list me.0
-
-      counted : Kept (stepped s 0 ((slice_index s.words 0 + k) % 2 ^ 64) id me.1 w keeps)
-      counted = ?
+      counted : Kept (stepped s 0 ((slice_index s.words 0 + k) % 2 ^ 64) id me.1 (counted_view (front_of base_of first_of list_of me.0) k (list_in base_of first_of list_of me.1) me.0) keeps)
+      counted =
+          let list : List E = list_in base_of first_of list_of me.1 in
+          let front : ℕ = front_of base_of first_of list_of me.0 in
+          let w : View B E = counted_view front k list me.0 in
+          let h : List E = r.history in
+          let f = r.each id me.0 at in
+          let mine = holder s r id me.0 ticket holds at in
+          let gone = has_out s r id me.0 ticket holds at in
+          let is : list ≡ list_of x = ap (list_in base_of first_of list_of) carries in
+          let on : list ≡ h ++ new = is ∙ (grows ∙ ap (λ (l : List E). l ++ new) mine.1) in
+          let longer : IsPrefix h list = (new, sym on) in
+          let many : length list ≡ length h + k = ap length on ∙ (length-append h new ∙ ap (λ (j : ℕ). length h + j) long) in
+          let below : length list < 2 ^ 64 = subst (λ (l : List E). length l < 2 ^ 64) (sym is) (omega arith) in
+          let found : slice_index s.words 0 ≡ length h = ap (λ ws. slice_index ws 0) r.words in
+          let sum : slice_index s.words 0 + k ≡ length list = omega arith in
+          let counted_to : (slice_index s.words 0 + k) % 2 ^ 64 ≡ length list = ap (λ (j : ℕ). j % 2 ^ 64) sum ∙ mod-eq_of_lt below in
+          let from : front ≡ first_of base + length h = ap (λ (b : Option B). first_if base_of first_of list_of b + length me.0.seen) based ∙ ap (λ (l : List E). first_of base + length l) mine.1 in
+          record {
+            history = list;
+            serving = r.serving;
+            holders = r.holders;
+            words = ap (λ ws. set ws 0 ((slice_index s.words 0 + k) % 2 ^ 64)) r.words ∙ ap (λ j. j ∷ (r.serving + r.holders) ∷ r.serving ∷ []) counted_to;
+            room = r.room;
+            tickets = λ t. total_same (λ u. ticket_at t u.stage) s.views id me.0 w at refl ∙ r.tickets t;
+            slot = inr (gone.0, total_same (λ u. slot_at u.stage) s.views id me.0 w at refl ∙ gone.1);
+            each = fits_set base_of first_of list_of base s.views id w r.serving list
+                (λ j u apart e.
+                let g = r.each j u e in
+                record {
+                  seen = prefix_trans u.seen h list g.seen longer;
+                  also = prefix_trans u.also h list g.also longer;
+                  served = unserved r.serving r.serving h list u.seen u.stage (gone.2 j u apart e) g.served;
+                  spent = g.spent;
+                })
+                record {
+                  seen = prefix_self list;
+                  also = prefix_trans me.0.also h list f.also longer;
+                  served = subst (Served r.serving list list) (sym holds) (mine.0, refl);
+                  spent = λ none_left. absurd (omega arith);
+                };
+            versions = λ v.
+                let adds = total_set (λ u. times v u.versions) s.views id me.0 w at in
+                let was = r.versions v in
+                let noted = times_append v me.0.versions (versions_after front k) in
+                let all = ap (times v) (numbers_append (suc (first_of base)) (length h) k (length list) (suc front) many (omega arith)) in
+                let apart = times_append v (versions_after (first_of base) (length h)) (versions_after front k) in
+                omega arith;
+            parts = total_same (λ u. u.parts) s.views id me.0 w at refl ∙ r.parts;
+          }
 
   pub passes : (n id : ℕ) (me : Me') (ticket : ℕ) (x : S) → me.0.stage ≡ Holds ticket → 0 < me.0.parts → me.1 ≡ (0, Some x) ∷ [] → base_of x ≡ base → list_of x ≡ me.0.seen
       → Allows Kept n id me 2 (λ y. (y + 1) % 2 ^ 64) (Passes base_of first_of list_of (step n 2 1 0 none) me)
-  passes n id me ticket x holds part carries based whole s r wide at _ = ?
+  passes n id me ticket x holds part carries based whole s r wide at _ = (at_stage Idle me.0, gives, tt, passed r.holders refl, (refl, refl))
+    where
+      passed : (m : ℕ) → r.holders ≡ m → Kept (stepped s 2 ((slice_index s.words 2 + 1) % 2 ^ 64) id me.1 (at_stage Idle me.0) gives)
+      passed zero none_left =
+          let one = part_le (λ u. ticket_at r.serving u.stage) s.views id me.0 at in
+          let had = ap (ticket_at r.serving) holds in
+          let is = one_if_same ticket r.serving (holder s r id me.0 ticket holds at).0 in
+          let all = r.tickets r.serving ∙ ap (λ (m : ℕ). times r.serving (numbers_from r.serving m)) none_left in
+          absurd (omega arith)
+      passed (suc m) left =
+          let w : View B E = at_stage Idle me.0 in
+          let h : List E = r.history in
+          let f = r.each id me.0 at in
+          let mine = holder s r id me.0 ticket holds at in
+          let gone = has_out s r id me.0 ticket holds at in
+          let found : slice_index s.words 2 ≡ r.serving = ap (λ ws. slice_index ws 2) r.words in
+          let all : r.serving + r.holders ≡ suc r.serving + m = omega arith in
+          let room : suc r.serving < 2 ^ 64 = let fits = r.room in omega arith in
+          let next : slice_index s.words 2 + 1 ≡ suc r.serving = omega arith in
+          let served : (slice_index s.words 2 + 1) % 2 ^ 64 ≡ suc r.serving = ap (λ (j : ℕ). j % 2 ^ 64) next ∙ mod-eq_of_lt room in
+          record {
+            history = h;
+            serving = suc r.serving;
+            holders = m;
+            words = ap (λ ws. set ws 2 ((slice_index s.words 2 + 1) % 2 ^ 64)) r.words ∙ (λ i. length h ∷ all i ∷ served i ∷ []);
+            room = let fits = r.room in omega arith;
+            tickets = λ t.
+                let adds = total_set (λ u. ticket_at t u.stage) s.views id me.0 w at in
+                let had = ap (ticket_at t) holds ∙ ap (λ (j : ℕ). one_if (nat_eq j t)) mine.0 in
+                let was = r.tickets t ∙ ap (λ (j : ℕ). times t (numbers_from r.serving j)) left in
+                omega arith;
+            slot = inl (
+              x,
+              ap (put_back s.homes) carries ∙ ap (λ hs. set hs 0 (some (Some x))) gone.0,
+              based,
+              whole ∙ mine.1,
+              let adds = total_set (λ u. slot_at u.stage) s.views id me.0 w at in
+              let had = ap slot_at holds in
+              let one = gone.1 in
+              omega arith,
+            );
+            each = fits_set base_of first_of list_of base s.views id w (suc r.serving) h
+                (λ j u apart e.
+                let g = r.each j u e in
+                record { seen = g.seen; also = g.also; served = unserved r.serving (suc r.serving) h h u.seen u.stage (gone.2 j u apart e) g.served; spent = g.spent })
+                record { seen = f.seen; also = f.also; served = tt; spent = λ none_left. absurd (omega arith) };
+            versions = λ v. total_same (λ u. times v u.versions) s.views id me.0 w at refl ∙ r.versions v;
+            parts = total_same (λ u. u.parts) s.views id me.0 w at refl ∙ r.parts;
+          }
 
   pub tells : (n id : ℕ) (me : Me') → me.0.stage ≡ Idle → 0 < me.0.parts → Allows Kept n id me 0 (λ y. y) (Tells base_of first_of list_of (step n 0 0 0 none) me)
-  tells n id me idle part s r wide at _ = ?
+  tells n id me idle part s r wide at _ =
+      let w : View B E = told_view me.0 in
+      let f = r.each id me.0 at in (
+        w,
+        keeps,
+        tt,
+        record {
+          history = r.history;
+          serving = r.serving;
+          holders = r.holders;
+          words = ap (λ ws. set ws 0 (slice_index ws 0)) r.words;
+          room = r.room;
+          tickets = λ t. total_same (λ u. ticket_at t u.stage) s.views id me.0 w at refl ∙ r.tickets t;
+          slot = slot_same base_of first_of list_of base r.history s.homes _ _ (sym (total_same (λ u. slot_at u.stage) s.views id me.0 w at refl)) r.slot;
+          each = fits_set base_of first_of list_of base s.views id w r.serving r.history (λ j u _ e. r.each j u e)
+              (fits_idle base_of first_of list_of base r.serving r.history w part idle f.seen (r.history, refl));
+          versions = λ x. total_same (λ u. times x u.versions) s.views id me.0 w at refl ∙ r.versions x;
+          parts = total_same (λ u. u.parts) s.views id me.0 w at refl ∙ r.parts;
+        },
+        (refl, refl, prefix_shorter me.0.also me.0.seen r.history f.also f.seen),
+      )
