@@ -4,6 +4,7 @@
 mod rule;
 mod turn;
 mod turned;
+mod waits;
 
-pub use turn::{Held, Pass, Turn};
+pub use turn::{Held, Pass, Turn, value};
 pub use turned::Turned;

@@ -1,26 +1,20 @@
 //! The turn, its passes, and the value while it is held.
-ghost use Rattle.std.specs.Prelude.{◌≡◌, ◌+◌, ◌-◌, ◌^◌, ◌<◌, ◌≤◌, [], ◌++◌, length, ℕ, None, IfOk, IfErr};
+ghost use Rattle.std.specs.Prelude.{◌≡◌, ◌+◌, ◌-◌, ◌^◌, ◌<◌, ◌≤◌, [], ◌++◌, length, ℕ, ◌∷◌, Some, None, IfOk, IfErr};
+ghost use Rattle.std.specs.Borrow.{Lends, sem};
+ghost use Rattle.td_turn.specs.contracts.turn.Held.{the_row};
 ghost use mathlib.Core.List.{IsPrefix};
 ghost use Rattle.td_turn.specs.Passes.{IsPassOf, IsHeldOf, GoesOn, versions_after, times, longer};
 
-use crate::rule::{Count, Cut, Draw, Law, Merge, PassOn, Tell, View, Watch};
+use crate::rule::{Count, Cut, Law, Merge, PassOn, Tell, View};
 use crate::turned::Turned;
-use atomic_table::{Seat, Table};
-use std::alloc::Global;
+use crate::waits::{FRONT, SERVING, TICKETS, draw, wait_for};
+use atomic_table::{Refused, Seat, Table};
+use std::alloc::{AllocFailed, Global};
 use std::marker::Model;
 use std::snapshot::Snapshot;
 use std::sync::Wait;
 use td_layer::NoMem;
 use td_limits::PASS_PARTS;
-
-/// Which word is the front, how many entries the history has.
-const FRONT: usize = 0;
-
-/// Which word is the number of tickets that were drawn.
-const TICKETS: usize = 1;
-
-/// Which word is the ticket that is served.
-const SERVING: usize = 2;
 
 /// Who may have the value, one after another. Contracts see its name and the base of its value.
 pub struct Turn<V: Turned> {
@@ -80,6 +74,41 @@ impl<V: Turned> Model for Held<V> {
 }
 
 impl<V: Turned> Turn<V> {
+    /// The turn of a value with an empty list, and the pass that has all parts. Where there is no memory the value
+    /// comes back.
+    pub fn new(alloc: Global, value: V) -> Result<(Turn<V>, Pass<V>), (V, NoMem)>
+        requires empty { V.list value ≡ [] }
+        ensures turn { IfOk result (λ t. (t.0.base ≡ V.base value) × IsPassOf t.0 t.1) }
+        ensures pass { IfOk result (λ t. (t.1.seen ≡ []) × (t.1.versions ≡ []) × (t.1.parts ≡ PASS_PARTS)) }
+        ensures err { IfErr result (λ e. e.0 ≡ value) }
+    {
+        let about = Snapshot::of(&value);
+        let slots = match one(alloc, value) {
+            Ok(slots) => slots,
+            Err(value) => return Err((value, NoMem)),
+        };
+        match Table::new(alloc, &[0, 0, 0], slots, &about) {
+            Ok((table, seat)) => Ok((Turn { table }, Pass { seat })),
+            Err(Refused { slots }) => Err((only(slots), NoMem)),
+        }
+    }
+
+    /// Takes the value, as soon as all that took a ticket before have given it back.
+    pub fn take<R: Wait>(&self, rt: &R, pass: Pass<V>) -> Held<V>
+        requires turn { IsPassOf self.now pass }
+        ensures turn { IsHeldOf self.now result }
+        ensures base { V.base result.value ≡ self.now.base }
+        ensures list { (V.list result.value ≡ result.taken) × IsPrefix pass.seen result.taken }
+        ensures kept { (result.versions ≡ pass.versions) × (result.parts ≡ pass.parts) }
+    {
+        let Pass { mut seat } = pass;
+        let words = &self.table.shared;
+        let ticket = draw(rt, words, &mut seat);
+        wait_for(rt, words, &mut seat, ticket);
+        let slot = words.exchange(&mut seat, 0, None);
+        let Some(value) = slot else { unreachable!() };
+        Held { seat, value }
+    }
     /// Splits one part of a pass off. The new pass has seen the same, and notes no version.
     pub fn split(&self, pass: Pass<V>) -> (Pass<V>, Pass<V>)
         requires turn { IsPassOf self.now pass }
@@ -131,6 +160,57 @@ impl<V: Turned> Turn<V> {
         }
         Pass { seat }
     }
+
+    /// Ends the turn, with a pass that has all parts, and gives the value.
+    pub fn close(self, pass: Pass<V>) -> V
+        requires turn { IsPassOf self pass }
+        requires whole { pass.parts ≡ PASS_PARTS }
+        ensures base { V.base result ≡ self.base }
+        ensures seen { IsPrefix pass.seen (V.list result) }
+        ensures versions { (n : ℕ) → times n pass.versions ≡ times n (versions_after (V.first self.base) (length (V.list result))) }
+    {
+        let Turn { table } = self;
+        let Pass { seat } = pass;
+        let mut closed = table.close_with(seat);
+        let slot = closed.take(0);
+        closed.free();
+        let Some(value) = slot else { unreachable!() };
+        value
+    }
+}
+
+/// The value that is held, to be read and changed.
+pub fn value<'a, V: Turned>(held: &'a mut Held<V>) -> &'a mut V
+    ensures* writes_back { sem 𝓛 (Lends (the_row V.row V.Base.row V.Entry.row) V.row held.entry result (λ w. record held.old { value = w })) }
+    ensures value { result.now ≡ held.old.value }
+{
+    &mut held.value
+}
+
+// A list of one slot, with the value in it, or else the value.
+fn one<V>(alloc: Global, value: V) -> Result<Vec<Option<V>>, V>
+    ensures ok { IfOk result (λ slots. slots.items ≡ Some value ∷ []) }
+    ensures err { IfErr result (λ back. back ≡ value) }
+{
+    let mut slots = Vec::new(alloc);
+    let Err(failed) = slots.push(Some(value)) else {
+        return Ok(slots);
+    };
+    slots.destroy_empty();
+    let AllocFailed { value: slot } = failed;
+    let Some(value) = slot else { unreachable!() };
+    Err(value)
+}
+
+// The value in the one slot.
+fn only<V>(mut slots: Vec<Option<V>>) -> V
+    requires { (x : V) × (slots.items ≡ Some x ∷ []) }
+    ensures { slots.items ≡ Some result ∷ [] }
+{
+    let last = slots.pop();
+    slots.destroy_empty();
+    let Some(Some(value)) = last else { unreachable!() };
+    value
 }
 
 // Ends the hole that the value left in its slot.
