@@ -181,7 +181,7 @@ impl<V: Turned> Turn<V> {
 
 /// The value that is held, to be read and changed.
 pub fn value<'a, V: Turned>(held: &'a mut Held<V>) -> &'a mut V
-    ensures* writes_back { sem 𝓛 (Lends (the_row V.row V.Base.row V.Entry.row) V.row held.entry result (λ w. record held.old { value = w })) }
+    ensures* writes_back { sem 𝓛 (Lends (the_row V.row V.Base.row V.Entry.row V.Turned) V.row held.entry result (λ w. record held.old { value = w })) }
     ensures value { result.now ≡ held.old.value }
 {
     &mut held.value
