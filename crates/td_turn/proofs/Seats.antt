@@ -103,7 +103,7 @@ module _ {S B E : Type 0} (base_of : S → B) (first_of : B → ℕ) (list_of : 
         each = fits_set (set views id both) other spent_view r.serving r.history
             (λ j u _ e. fits_set views id both r.serving r.history (λ i x _ d. r.each i x d)
             (fits_idle r.serving r.history both (omega arith) refl (second_is P _ v.seen w.seen f.seen g.seen) (second_is P _ w.seen v.seen g.seen f.seen)) j u e)
-            record { seen = (r.history, refl); also = (r.history, refl); served = tt; spent = λ _. (refl, refl) };
+            record { seen = (r.history, refl); also = (r.history, refl); served = tt; spent = λ _. (refl, refl, refl) };
         versions = λ x. same (λ u. times x u.versions) (times_append x v.versions w.versions) refl ∙ r.versions x;
         parts = same (λ u. u.parts) refl refl ∙ r.parts;
       }

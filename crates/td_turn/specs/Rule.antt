@@ -21,12 +21,12 @@ module _ {S B E : Type 0} (base_of : S → B) (first_of : B → ℕ) (list_of : 
     IsServed serving history seen (Waits t) = Unit {0}
     IsServed serving history seen (Holds t) = (t ≡ serving) × (seen ≡ history)
 
-    -- what a view saw begins the history; without a part it has no ticket and notes no version
+    -- what a view saw begins the history; a view without a part has no ticket, and its lists are empty
     pub record Fits (serving : ℕ) (history : List E) (v : View B E) : Type 0 where
       pub seen : IsPrefix v.seen history
       pub also : IsPrefix v.also history
       pub served : IsServed serving history v.seen v.stage
-      pub spent : v.parts ≡ 0 → (v.stage ≡ Idle) × (v.versions ≡ [])
+      pub spent : v.parts ≡ 0 → (v.stage ≡ Idle) × (v.versions ≡ []) × (v.seen ≡ [])
 
     -- the slot is at home, with a value of this base whose list is the history, or one view has it
     abbrev pub AtHome : List E → List (maybe.Option (Option S)) → ℕ → Type 0

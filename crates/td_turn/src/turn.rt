@@ -16,7 +16,10 @@ use std::sync::Wait;
 use td_layer::NoMem;
 use td_limits::PASS_PARTS;
 
-/// Who may have the value, one after another. Contracts see its name and the base of its value.
+/// Who may have the value, one after another. Contracts see its name, which no other turn has, and the base of its value.
+///
+/// A turn that is dropped drops its value.
+#[derive(Drop)]
 pub struct Turn<V: Turned> {
     table: Table<Option<V>, View<V::Base, V::Entry>, Snapshot<V>, Law, Global>,
 }
@@ -34,7 +37,11 @@ impl<V: Turned> Model for Turn<V> {
     ghost invariant = { λ t. (t.table.shared.table_id.words ≡ 3) × (t.table.shared.table_id.slots ≡ 1) };
 }
 
-/// What its holder has seen, the versions that it notes, and how many parts of the whole it is. It has no bytes.
+/// The right to take turns. Contracts see the entries that its holder has seen, the versions that it notes, and how many
+/// of all parts it has. It has no bytes.
+///
+/// Without a pass that was dropped the turn can't be closed.
+#[derive(Drop)]
 pub struct Pass<V: Turned> {
     seat: Seat<Option<V>, View<V::Base, V::Entry>>,
 }
@@ -53,7 +60,8 @@ impl<V: Turned> Model for Pass<V> {
     ghost invariant = { λ p. (p.seat.me.1 ≡ []) × (p.seat.me.0.stage ≡ Idle) × (0 < p.seat.me.0.parts) };
 }
 
-/// The value while it is held, with the pass that it was taken with. It is given back by [`Turn::give`].
+/// The value while it is held, with the pass that it was taken with. Nobody else takes a turn until [`Turn::give`] gives
+/// it back, so it can't be dropped.
 pub struct Held<V: Turned> {
     seat: Seat<Option<V>, View<V::Base, V::Entry>>,
     value: V,
@@ -93,7 +101,9 @@ impl<V: Turned> Turn<V> {
         }
     }
 
-    /// Takes the value, as soon as all that took a ticket before have given it back.
+    /// Takes the value, once all who came before have given it back. Its list begins with what the pass has seen.
+    ///
+    /// It waits for the others, in the order in which they came. Once 2^64-1 turns were taken it waits for good.
     pub fn take<R: Wait>(&self, rt: &R, pass: Pass<V>) -> Held<V>
         requires turn { IsPassOf self.now pass }
         ensures turn { IsHeldOf self.now result }
@@ -109,7 +119,7 @@ impl<V: Turned> Turn<V> {
         let Some(value) = slot else { unreachable!() };
         Held { seat, value }
     }
-    /// Splits one part of a pass off. The new pass has seen the same, and notes no version.
+    /// Splits one part of a pass off, as a second pass that has seen the same and notes no version.
     pub fn split(&self, pass: Pass<V>) -> (Pass<V>, Pass<V>)
         requires turn { IsPassOf self.now pass }
         requires parts { 2 ≤ pass.parts }
@@ -121,8 +131,8 @@ impl<V: Turned> Turn<V> {
         (Pass { seat }, Pass { seat: new })
     }
 
-    /// Joins two passes into one, with the parts of both. It has seen what either has seen, and notes the versions of
-    /// both.
+    /// Joins two passes into one with the parts of both. It has seen what either has seen, of which the shorter begins the
+    /// longer, and notes the versions of both.
     pub fn join(&self, a: Pass<V>, b: Pass<V>) -> Pass<V>
         requires turn { IsPassOf self.now a × IsPassOf self.now b }
         ensures turn { IsPassOf self.now result }
@@ -133,13 +143,14 @@ impl<V: Turned> Turn<V> {
     {
         let Pass { mut seat } = a;
         let Pass { seat: other } = b;
-        let table = &self.table.shared;
-        table.join_seat::<Merge>(&mut seat, other);
-        table.load::<Tell>(&mut seat, FRONT);
+        let words = &self.table.shared;
+        words.join_seat::<Merge>(&mut seat, other);
+        words.load::<Tell>(&mut seat, FRONT);
         Pass { seat }
     }
 
-    /// Gives the value back, with `entries` further entries in its list.
+    /// Gives the value back, with `entries` further entries at the end of its list. The pass has then seen the whole list,
+    /// and notes the versions of these entries. It waits for nobody.
     pub fn give(&self, held: Held<V>, entries: u64) -> Pass<V>
         requires turn { IsHeldOf self.now held }
         requires base { V.base held.value ≡ self.now.base }
@@ -151,17 +162,19 @@ impl<V: Turned> Turn<V> {
         ensures parts { result.parts ≡ held.parts }
     {
         let Held { mut seat, value } = held;
-        let table = &self.table.shared;
-        fill(table.exchange(&mut seat, 0, Some(value)));
-        table.fetch_add::<Count>(&mut seat, FRONT, entries);
-        let served = table.fetch_add::<PassOn>(&mut seat, SERVING, 1);
-        if table.peek(TICKETS) != served.wrapping_add(1) {
-            table.wake_all(SERVING);
+        let words = &self.table.shared;
+        fill(words.exchange(&mut seat, 0, Some(value)));
+        words.fetch_add::<Count>(&mut seat, FRONT, entries);
+        let served = words.fetch_add::<PassOn>(&mut seat, SERVING, 1);
+        if words.peek(TICKETS) != served.wrapping_add(1) {
+            // Who waits drew its ticket before it looked at the one that is served, so it is seen here or doesn't sleep.
+            words.wake_all(SERVING);
         }
         Pass { seat }
     }
 
-    /// Ends the turn, with a pass that has all parts, and gives the value.
+    /// Ends the turn and gives its value, for a pass that every other was joined into. The value's list begins with what
+    /// the pass has seen, and the pass notes the version of each entry once, and no other.
     pub fn close(self, pass: Pass<V>) -> V
         requires turn { IsPassOf self pass }
         requires whole { pass.parts ≡ PASS_PARTS }
