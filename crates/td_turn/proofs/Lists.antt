@@ -53,6 +53,10 @@ numbers_append k zero n t j is at =
 numbers_append k (suc m) n zero j is at = absurd (omega arith)
 numbers_append k (suc m) n (suc t) j is at = ap (λ ns. k ∷ ns) (numbers_append (suc k) m n t j (omega arith) (omega arith))
 
+pub length_numbers : (k n : ℕ) → length (numbers_from k n) ≡ n
+length_numbers k zero = refl
+length_numbers k (suc n) = ap suc (length_numbers (suc k) n)
+
 pub times_append : (x : ℕ) (xs ys : List ℕ) → times x (xs ++ ys) ≡ times x xs + times x ys
 times_append x [] ys = omega arith
 times_append x (y ∷ xs) ys = omega (arith, times_append x xs ys)

@@ -1,5 +1,5 @@
 //! Threads that take turns.
-ghost use Rattle.std.specs.Prelude.{◌≡◌, ◌<◌, IfOk};
+ghost use Rattle.std.specs.Prelude.{◌≡◌, ◌+◌, ◌<◌, IfOk};
 ghost use Rattle.std.specs.Thread.{IsSync};
 ghost use Rattle.td_turn.specs.Passes.{IsPassOf};
 
@@ -75,6 +75,7 @@ pub fn crowd<R: Threads + Wait + Sync>(
     if others == 0 {
         return turns(rt, alloc, turn, pass);
     }
+    let left = others - 1;
     let (rest, own) = turn.split(pass);
     let (one, more) = join(
         rt,
@@ -83,9 +84,9 @@ pub fn crowd<R: Threads + Wait + Sync>(
             ensures { IfOk result (λ found. IsPassOf turn.entry.now found.0 × (found.0.parts ≡ own.parts)) }
         { turns(rt, alloc, turn, own) },
         || -> Result<Found, NoMem>
-            requires { IsSync R.row × IsPassOf turn.now rest × (0 < others) × (others < rest.parts + 1) }
+            requires { IsSync R.row × IsPassOf turn.now rest × (left < rest.parts) }
             ensures { IfOk result (λ found. IsPassOf turn.entry.now found.0 × (found.0.parts ≡ rest.parts)) }
-        { crowd(rt, alloc, turn, rest, others - 1) },
+        { crowd(rt, alloc, turn, rest, left) },
     );
     joined(turn, more?, one?)
 }
