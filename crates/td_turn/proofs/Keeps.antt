@@ -20,6 +20,12 @@ use Rattle.td_turn.proofs.Totals.{total_set, total_same, part_le, two_le, total_
 use Rattle.td_turn.proofs.Lists.{prefix_self, prefix_same, prefix_trans, prefix_shorter, numbers_append, times_append, times_first, one_if_le, one_if_same}
 use Rattle.td_turn.proofs.Seats.{K, Fit, M, fits_set, fits_idle, slot_same}
 
+-- who holds the value has a ticket
+pub holding : (stage : Stage) → slot_at stage ≡ 1 → (t : ℕ) × (stage ≡ Holds t)
+holding Idle out = absurd (omega arith)
+holding (Waits t) out = absurd (omega arith)
+holding (Holds t) out = (t, refl)
+
 module _ {S B E : Type 0} (base_of : S → B) (first_of : B → ℕ) (list_of : S → List E) (base : B) where
   abbrev Kept : State (Option S) (View B E) → Type 0
   Kept = K base_of first_of list_of base
@@ -99,15 +105,15 @@ module _ {S B E : Type 0} (base_of : S → B) (first_of : B → ℕ) (list_of : 
       let told : ℕ → Me' → Type 0 = λ found m'. WatchesAt base_of first_of list_of me.0.stage me found m' in
       dite (ℕ_discrete y ticket)
       (λ hit. elim r.slot [
-        inl home ↦
-          let w = taken_view ticket (list_of home.0) me.0 in (
-            w,
-            takes 0 (Some home.0),
-            ap (λ hs. get_elem? hs 0) home.1,
-            taken hit home,
-            subst (λ (st : Stage). WatchesAt base_of first_of list_of st me y (w, (0, Some home.0) ∷ me.1)) (sym waits)
-                ((λ _. (home.0, ap Some home.2 ∙ sym based, subst (λ (l : List E). IsPrefix me.0.seen l) (sym home.3) (r.each id me.0 at).seen, refl, refl)), (λ ne. absurd (ne hit))),
-          )
+        | inl home ↦
+            let w = taken_view ticket (list_of home.0) me.0 in (
+              w,
+              takes 0 (Some home.0),
+              ap (λ hs. get_elem? hs 0) home.1,
+              taken hit home,
+              subst (λ (st : Stage). WatchesAt base_of first_of list_of st me y (w, (0, Some home.0) ∷ me.1)) (sym waits)
+                  ((λ _. (home.0, ap Some home.2 ∙ sym based, subst (λ (l : List E). IsPrefix me.0.seen l) (sym home.3) (r.each id me.0 at).seen, refl, refl)), (λ ne. absurd (ne hit))),
+            )
         | inr out ↦ absurd (alone hit out.1)
       ])
       (λ miss. (
@@ -147,9 +153,9 @@ module _ {S B E : Type 0} (base_of : S → B) (first_of : B → ℕ) (list_of : 
             slot = inr (
               ap (λ hs. set hs 0 none) home.1,
               let adds = total_set (λ u. slot_at u.stage) s.views id me.0 w at in
-              let none_mine = ap slot_at waits in
-              let none_out = home.4 in
-              omega arith,
+                  let none_mine = ap slot_at waits in
+                  let none_out = home.4 in
+                  omega arith,
             );
             each = fits_set base_of first_of list_of base s.views id w r.serving r.history (λ j u _ e. r.each j u e)
                 record { seen = prefix_same (list_of home.0) r.history home.3; also = f.also; served = (served hit, home.3); spent = λ none_left. absurd (omega arith) };
@@ -166,7 +172,7 @@ module _ {S B E : Type 0} (base_of : S → B) (first_of : B → ℕ) (list_of : 
       let mine = ap slot_at holds in
       let one = part_le (λ u. slot_at u.stage) s.views id v at in
       elim r.slot [
-        inl home ↦ absurd (let none_out = home.4 in omega arith)
+        | inl home ↦ absurd (let none_out = home.4 in omega arith)
         | inr out ↦ (
           out.0,
           out.1,
@@ -274,9 +280,9 @@ module _ {S B E : Type 0} (base_of : S → B) (first_of : B → ℕ) (list_of : 
               based,
               whole ∙ mine.1,
               let adds = total_set (λ u. slot_at u.stage) s.views id me.0 w at in
-              let had = ap slot_at holds in
-              let one = gone.1 in
-              omega arith,
+                  let had = ap slot_at holds in
+                  let one = gone.1 in
+                  omega arith,
             );
             each = fits_set base_of first_of list_of base s.views id w (suc r.serving) h
                 (λ j u apart e.

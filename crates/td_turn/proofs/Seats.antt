@@ -50,9 +50,9 @@ module _ {S B E : Type 0} (base_of : S → B) (first_of : B → ℕ) (list_of : 
   splits id v idle parts s r at =
       let views = s.views in
       let same = λ (f : View B E → ℕ) (adds : f (kept_view v) + f (new_view v) ≡ f v).
-          let all : total f (set views id (kept_view v) ++ new_view v ∷ []) ≡ total f views =
-              omega (arith, total_push f (set views id (kept_view v)) (new_view v), total_set f views id v (kept_view v) at) in
-          all in
+      let all : total f (set views id (kept_view v) ++ new_view v ∷ []) ≡ total f views =
+      omega (arith, total_push f (set views id (kept_view v)) (new_view v), total_set f views id v (kept_view v) at) in
+      all in
       let f = r.each id v at in
       record {
         history = r.history;
@@ -72,17 +72,16 @@ module _ {S B E : Type 0} (base_of : S → B) (first_of : B → ℕ) (list_of : 
         parts = same (λ u. u.parts) (omega arith) ∙ r.parts;
       }
 
-
   pub joins : (id : ℕ) (v : View B E) (other : ℕ) (w : View B E) → v.stage ≡ Idle → w.stage ≡ Idle → 0 < v.parts → Joins K id v other w (joined_view v w) spent_view
   joins id v other w idle idle' part s r at apart there =
       let views = s.views in
       let both = joined_view v w in
       let here : get_elem? views other ≡ some w =
-          ⊎_elim (λ (t : (other ≡ id) × (both ≡ w)). absurd (apart t.0)) (λ (t : (other ≢ id) × (get_elem? views other ≡ some w)). t.1) (at_set views id other both w there) in
+      ⊎_elim (λ (t : (other ≡ id) × (both ≡ w)). absurd (apart t.0)) (λ (t : (other ≢ id) × (get_elem? views other ≡ some w)). t.1) (at_set views id other both w there) in
       let same = λ (f : View B E → ℕ) (adds : f both ≡ f v + f w) (none_left : f spent_view ≡ 0).
-          let all : total f (set (set views id both) other spent_view) ≡ total f views =
-              omega (arith, total_set f (set views id both) other w spent_view there, total_set f views id v both at) in
-          all in
+      let all : total f (set (set views id both) other spent_view) ≡ total f views =
+      omega (arith, total_set f (set views id both) other w spent_view there, total_set f views id v both at) in
+      all in
       let f = r.each id v at in
       let g = r.each other w here in
       let P : List E → Type 0 = λ xs. IsPrefix xs r.history in
@@ -137,10 +136,10 @@ module _ {S B E : Type 0} (base_of : S → B) (first_of : B → ℕ) (list_of : 
       let at = end.1.1 in
       let whole : total (λ u. u.parts) s.views ≡ v.parts = r.parts ∙ sym all in
       let out : total (λ u. slot_at u.stage) s.views ≡ 0 =
-          total_alone (λ u. u.parts) (λ u. slot_at u.stage) s.views id v (λ j u e none_left. ap slot_at ((r.each j u e).spent none_left).0) at whole ∙ ap slot_at idle in
+      total_alone (λ u. u.parts) (λ u. slot_at u.stage) s.views id v (λ j u e none_left. ap slot_at ((r.each j u e).spent none_left).0) at whole ∙ ap slot_at idle in
       let noted = λ (n : ℕ). total_alone (λ u. u.parts) (λ u. times n u.versions) s.views id v (λ j u e none_left. ap (times n) ((r.each j u e).spent none_left).1) at whole in
       elim r.slot [
-        inl home ↦ (
+        | inl home ↦ (
           home.0,
           end.4 0 (Some home.0) (ap (λ hs. get_elem? hs 0) home.1),
           (

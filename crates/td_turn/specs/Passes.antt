@@ -31,14 +31,14 @@ coded_turn {B} b = code_by (TableId × B) (coded× table_id_coded b) (λ t. (t.n
 abbrev pub coded_pass : {B E : Type 0} → Coded B → Coded E → Coded (PassShown B E)
 coded_pass {B} {E} b e =
     code_by (TableId × (Option B × (List E × (List ℕ × ℕ)))) (coded× table_id_coded (coded× (coded_option b) (coded× (coded_list e) (coded× (coded_list coded_ℕ) coded_ℕ))))
-        (λ p. (p.name, (p.base, (p.seen, (p.versions, p.parts)))))
-        (λ q. record { name = q.0; base = q.1.0; seen = q.1.1.0; versions = q.1.1.1.0; parts = q.1.1.1.1 }) (λ _. refl)
+    (λ p. (p.name, (p.base, (p.seen, (p.versions, p.parts)))))
+    (λ q. record { name = q.0; base = q.1.0; seen = q.1.1.0; versions = q.1.1.1.0; parts = q.1.1.1.1 }) (λ _. refl)
 
 abbrev pub coded_held : {S B E : Type 0} → Coded S → Coded B → Coded E → Coded (HeldShown S B E)
 coded_held {S} {B} {E} s b e =
     code_by (TableId × (Option B × (List E × (List ℕ × (ℕ × S))))) (coded× table_id_coded (coded× (coded_option b) (coded× (coded_list e) (coded× (coded_list coded_ℕ) (coded× coded_ℕ s)))))
-        (λ h. (h.name, (h.base, (h.taken, (h.versions, (h.parts, h.value))))))
-        (λ q. record { name = q.0; base = q.1.0; taken = q.1.1.0; versions = q.1.1.1.0; parts = q.1.1.1.1.0; value = q.1.1.1.1.1 }) (λ _. refl)
+    (λ h. (h.name, (h.base, (h.taken, (h.versions, (h.parts, h.value))))))
+    (λ q. record { name = q.0; base = q.1.0; taken = q.1.1.0; versions = q.1.1.1.0; parts = q.1.1.1.1.0; value = q.1.1.1.1.1 }) (λ _. refl)
 
 -- the pass is of this turn
 abbrev pub IsPassOf : {B E : Type 0} → TurnShown B → PassShown B E → Type 0

@@ -40,9 +40,9 @@
 #![tactic(auto)]
 
 mod rule;
+mod steps;
 mod turn;
 mod turned;
-mod waits;
 
 pub use turn::{Held, Pass, Turn, value};
 pub use turned::Turned;

@@ -5,9 +5,9 @@ ghost use Rattle.td_turn.specs.contracts.turn.Held.{the_row};
 ghost use mathlib.Core.List.{IsPrefix};
 ghost use Rattle.td_turn.specs.Passes.{IsPassOf, IsHeldOf, GoesOn, versions_after, times, longer};
 
-use crate::rule::{Count, Cut, Law, Merge, PassOn, Tell, View};
+use crate::rule::{Law, View};
+use crate::steps::{count, draw, merge, pass_on, put_back, split, take_out, wait_for};
 use crate::turned::Turned;
-use crate::waits::{FRONT, SERVING, TICKETS, draw, wait_for};
 use atomic_table::{Refused, Seat, Table};
 use std::alloc::{AllocFailed, Global};
 use std::marker::Model;
@@ -68,9 +68,9 @@ pub struct Held<V: Turned> {
 }
 
 impl<V: Turned> Model for Held<V> {
-    ghost use Rattle.std.specs.Prelude.{◌≡◌, ◌<◌, [], ◌∷◌, None, ℕ};
+    ghost use Rattle.std.specs.Prelude.{◌≡◌, ◌<◌, [], ◌∷◌, None};
     ghost use Rattle.td_turn.specs.Passes.{HeldShown, coded_held};
-    ghost use Rattle.td_turn.specs.declared.rule.Stage.TheVariants.{Holds};
+    ghost use Rattle.td_turn.specs.Views.{slot_at};
 
     ghost Value = { HeldShown V V.Base V.Entry };
 
@@ -78,7 +78,7 @@ impl<V: Turned> Model for Held<V> {
 
     ghost view = { λ h. record { name = h.seat.table_id; base = h.seat.me.0.base; taken = h.seat.me.0.seen; versions = h.seat.me.0.versions; parts = h.seat.me.0.parts; value = h.value } };
 
-    ghost invariant = { λ h. (h.seat.me.1 ≡ (0, None) ∷ []) × ((t : ℕ) × (h.seat.me.0.stage ≡ Holds t)) × (0 < h.seat.me.0.parts) };
+    ghost invariant = { λ h. (h.seat.me.1 ≡ (0, None) ∷ []) × (slot_at h.seat.me.0.stage ≡ 1) × (0 < h.seat.me.0.parts) };
 }
 
 impl<V: Turned> Turn<V> {
@@ -115,38 +115,8 @@ impl<V: Turned> Turn<V> {
         let words = &self.table.shared;
         let ticket = draw(rt, words, &mut seat);
         wait_for(rt, words, &mut seat, ticket);
-        let slot = words.exchange(&mut seat, 0, None);
-        let Some(value) = slot else { unreachable!() };
+        let value = take_out(words, &mut seat);
         Held { seat, value }
-    }
-    /// Splits one part of a pass off, as a second pass that has seen the same and notes no version.
-    pub fn split(&self, pass: Pass<V>) -> (Pass<V>, Pass<V>)
-        requires turn { IsPassOf self.now pass }
-        requires parts { 2 ≤ pass.parts }
-        ensures kept { result.0 ≡ record pass { parts = pass.parts - 1 } }
-        ensures new { result.1 ≡ record pass { versions = []; parts = 1 } }
-    {
-        let Pass { mut seat } = pass;
-        let new = self.table.shared.split_seat::<Cut>(&mut seat);
-        (Pass { seat }, Pass { seat: new })
-    }
-
-    /// Joins two passes into one with the parts of both. It has seen what either has seen, of which the shorter begins the
-    /// longer, and notes the versions of both.
-    pub fn join(&self, a: Pass<V>, b: Pass<V>) -> Pass<V>
-        requires turn { IsPassOf self.now a × IsPassOf self.now b }
-        ensures turn { IsPassOf self.now result }
-        ensures longer { result.seen ≡ longer a.seen b.seen }
-        ensures begins { IsPrefix a.seen result.seen × IsPrefix b.seen result.seen }
-        ensures versions { result.versions ≡ a.versions ++ b.versions }
-        ensures parts { result.parts ≡ a.parts + b.parts }
-    {
-        let Pass { mut seat } = a;
-        let Pass { seat: other } = b;
-        let words = &self.table.shared;
-        words.join_seat::<Merge>(&mut seat, other);
-        words.load::<Tell>(&mut seat, FRONT);
-        Pass { seat }
     }
 
     /// Gives the value back, with `entries` further entries at the end of its list. The pass has then seen the whole list,
@@ -163,13 +133,38 @@ impl<V: Turned> Turn<V> {
     {
         let Held { mut seat, value } = held;
         let words = &self.table.shared;
-        fill(words.exchange(&mut seat, 0, Some(value)));
-        words.fetch_add::<Count>(&mut seat, FRONT, entries);
-        let served = words.fetch_add::<PassOn>(&mut seat, SERVING, 1);
-        if words.peek(TICKETS) != served.wrapping_add(1) {
-            // Who waits drew its ticket before it looked at the one that is served, so it is seen here or doesn't sleep.
-            words.wake_all(SERVING);
-        }
+        let like = Snapshot::of(&value);
+        put_back(words, &mut seat, value);
+        count(words, &mut seat, &like, entries);
+        pass_on(words, &mut seat, &like);
+        Pass { seat }
+    }
+
+    /// Splits one part of a pass off, as a second pass that has seen the same and notes no version.
+    pub fn split(&self, pass: Pass<V>) -> (Pass<V>, Pass<V>)
+        requires turn { IsPassOf self.now pass }
+        requires parts { 2 ≤ pass.parts }
+        ensures kept { result.0 ≡ record pass { parts = pass.parts - 1 } }
+        ensures new { result.1 ≡ record pass { versions = []; parts = 1 } }
+    {
+        let Pass { mut seat } = pass;
+        let new = split(&self.table.shared, &mut seat);
+        (Pass { seat }, Pass { seat: new })
+    }
+
+    /// Joins two passes into one with the parts of both. It has seen what either has seen, of which the shorter begins the
+    /// longer, and notes the versions of both.
+    pub fn join(&self, a: Pass<V>, b: Pass<V>) -> Pass<V>
+        requires turn { IsPassOf self.now a × IsPassOf self.now b }
+        ensures turn { IsPassOf self.now result }
+        ensures longer { result.seen ≡ longer a.seen b.seen }
+        ensures begins { IsPrefix a.seen result.seen × IsPrefix b.seen result.seen }
+        ensures versions { result.versions ≡ a.versions ++ b.versions }
+        ensures parts { result.parts ≡ a.parts + b.parts }
+    {
+        let Pass { mut seat } = a;
+        let Pass { seat: other } = b;
+        merge(&self.table.shared, &mut seat, other);
         Pass { seat }
     }
 
@@ -222,13 +217,8 @@ fn only<V>(mut slots: Vec<Option<V>>) -> V
 {
     let last = slots.pop();
     slots.destroy_empty();
-    let Some(Some(value)) = last else { unreachable!() };
+    let Some(Some(value)) = last else {
+        unreachable!()
+    };
     value
-}
-
-// Ends the hole that the value left in its slot.
-fn fill<V>(hole: Option<V>)
-    requires { hole ≡ None }
-{
-    let None = hole else { unreachable!() };
 }

@@ -11,4 +11,4 @@ new-requires g c =
     let list_of = g.V.Turned.list in
     let base = base_of c.of-about.result.value in
     subst (λ (slots : List (Option g.row.V.Denot)). K base_of first_of list_of base (opening (0 ∷ 0 ∷ 0 ∷ []) slots (opening_view base))) (sym c.in-Ok.ensures.ok)
-        (opens base_of first_of list_of base c.args.value (ap base_of (sym c.of-about.ensures)) c.requires.empty)
+    (opens base_of first_of list_of base c.args.value (ap base_of (sym c.of-about.ensures)) c.requires.empty)
