@@ -21,10 +21,7 @@ use td_turn::Turn;
 const OTHERS: u32 = 7;
 
 /// The counts that were found, from the lowest on, and the count at the end.
-fn counts_found<R: Threads + Wait + Sync>(
-    rt: &R,
-    alloc: Global,
-) -> Result<(Vec<u64>, u64), NoMem> {
+fn counts_found<R: Threads + Wait + Sync>(rt: &R, alloc: Global) -> Result<(Vec<u64>, u64), NoMem> {
     let (turn, pass) = match Turn::new(alloc, Tally::new()) {
         Ok(made) => made,
         Err((_, NoMem)) => return Err(NoMem),

@@ -17,6 +17,7 @@ impl Turned for Tally {
     ghost use Rattle.td_turn.specs.Passes.{versions_after};
 
     type Base = ();
+
     type Entry = u64;
 
     ghost base = { λ _. tt };

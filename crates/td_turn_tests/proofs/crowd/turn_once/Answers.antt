@@ -7,11 +7,10 @@ pub give-requires-clause-list : goal.give-requires-clause-list
 give-requires-clause-list g c κs =
     let old : ℕ = c.value-tally.result.now.count in
     let entries : ℕ = c.raise-entries.result in
-    let more : List ℕ = numbers_from (suc old) entries in
-    (
+    let more : List ℕ = numbers_from (suc old) entries in (
       more,
       numbers_append 1 old entries c.raise-entries.new.self.count (suc old) c.raise-entries.ensures (omega arith)
-      ∙ ap (λ l. l ++ more) (ap (λ t. versions_after 0 t.count) c.value-tally.ensures.value ∙ c.take-held.ensures.list.0),
+          ∙ ap (λ l. l ++ more) (ap (λ t. versions_after 0 t.count) c.value-tally.ensures.value ∙ c.take-held.ensures.list.0),
       length_numbers (suc old) entries,
     )
 
