@@ -1,5 +1,6 @@
 -- What contracts see of a turn, of a pass, and of the value while it is held.
-use Rattle.std.specs.Prelude.{◌≡◌, ℕ, zero, suc, ◌+◌, Bool, true, false, ◌==◌, nat_lt, List, [], ◌∷◌, ◌++◌, length, Option, Some, refl}
+use Rattle.std.specs.Prelude.{◌≡◌, ℕ, zero, suc, ◌+◌, Bool, true, false, ◌==◌, nat_lt, List, [], ◌∷◌, ◌++◌, length, Option}
+use Rattle.std.specs.Prelude.{Some, refl}
 use Rattle.std.specs.Coded.{Coded, code_by, coded×, coded_ℕ, coded_list, coded_option}
 use Rattle.atomic_table.specs.Seated.{TableId, table_id_coded}
 
@@ -26,19 +27,33 @@ pub record HeldShown (S B E : Type 0) : Type 0 where
   pub value : S
 
 abbrev pub coded_turn : {B : Type 0} → Coded B → Coded (TurnShown B)
-coded_turn {B} b = code_by (TableId × B) (coded× table_id_coded b) (λ t. (t.name, t.base)) (λ p. record { name = p.0; base = p.1 }) (λ _. refl)
+coded_turn {B} b =
+    code_by (TableId × B) (coded× table_id_coded b) (λ t. (t.name, t.base)) (λ p. record { name = p.0; base = p.1 })
+    (λ _. refl)
+
+abbrev pub coded_notes : {B E : Type 0} → Coded B → Coded E → Coded (Option B × (List E × (List ℕ × ℕ)))
+coded_notes b e = coded× (coded_option b) (coded× (coded_list e) (coded× (coded_list coded_ℕ) coded_ℕ))
 
 abbrev pub coded_pass : {B E : Type 0} → Coded B → Coded E → Coded (PassShown B E)
 coded_pass {B} {E} b e =
-    code_by (TableId × (Option B × (List E × (List ℕ × ℕ)))) (coded× table_id_coded (coded× (coded_option b) (coded× (coded_list e) (coded× (coded_list coded_ℕ) coded_ℕ))))
+    code_by (TableId × (Option B × (List E × (List ℕ × ℕ)))) (coded× table_id_coded (coded_notes b e))
     (λ p. (p.name, (p.base, (p.seen, (p.versions, p.parts)))))
-    (λ q. record { name = q.0; base = q.1.0; seen = q.1.1.0; versions = q.1.1.1.0; parts = q.1.1.1.1 }) (λ _. refl)
+    (λ q. record { name = q.0; base = q.1.0; seen = q.1.1.0; versions = q.1.1.1.0; parts = q.1.1.1.1 })
+    (λ _. refl)
 
 abbrev pub coded_held : {S B E : Type 0} → Coded S → Coded B → Coded E → Coded (HeldShown S B E)
 coded_held {S} {B} {E} s b e =
-    code_by (TableId × (Option B × (List E × (List ℕ × (ℕ × S))))) (coded× table_id_coded (coded× (coded_option b) (coded× (coded_list e) (coded× (coded_list coded_ℕ) (coded× coded_ℕ s)))))
-    (λ h. (h.name, (h.base, (h.taken, (h.versions, (h.parts, h.value))))))
-    (λ q. record { name = q.0; base = q.1.0; taken = q.1.1.0; versions = q.1.1.1.0; parts = q.1.1.1.1.0; value = q.1.1.1.1.1 }) (λ _. refl)
+    code_by ((TableId × S) × (Option B × (List E × (List ℕ × ℕ)))) (coded× (coded× table_id_coded s) (coded_notes b e))
+    (λ h. ((h.name, h.value), (h.base, (h.taken, (h.versions, h.parts)))))
+    (λ q. record {
+      name = q.0.0;
+      base = q.1.0;
+      taken = q.1.1.0;
+      versions = q.1.1.1.0;
+      parts = q.1.1.1.1;
+      value = q.0.1;
+    })
+    (λ _. refl)
 
 -- the pass is of this turn
 abbrev pub IsPassOf : {B E : Type 0} → TurnShown B → PassShown B E → Type 0

@@ -1,6 +1,7 @@
 -- The rule of the turn, and what each step tells.
--- Word 0 is the front, word 1 the number of tickets that were drawn, and word 2 the ticket that is served. The one slot has the value.
-use Rattle.std.specs.Prelude.{◌≡◌, ◌≢◌, ℕ, suc, ◌+◌, ◌^◌, ◌<◌, ◌≤◌, ◌⊎◌, List, [], ◌∷◌, ◌++◌, length, Option, Some, None}
+-- Word 0 is the front, word 1 the number of tickets that were drawn, and word 2 the ticket that is served. The one slot
+-- has the value.
+use Rattle.std.specs.Prelude.{◌≡◌, ◌≢◌, ℕ, ◌+◌, ◌^◌, ◌<◌, ◌≤◌, ◌⊎◌, List, [], ◌∷◌, ◌++◌, length, Option, Some, None}
 use mathlib.Core.Option.{some, none}
 use mathlib.Core.Option as maybe
 use mathlib.Core.List.{IsPrefix}
@@ -30,7 +31,8 @@ module _ {S B E : Type 0} (base_of : S → B) (first_of : B → ℕ) (list_of : 
 
     -- the slot is at home, with a value of this base whose list is the history, or one view has it
     abbrev pub AtHome : List E → List (maybe.Option (Option S)) → ℕ → Type 0
-    AtHome history homes out = (x : S) × (homes ≡ some (Some x) ∷ []) × (base_of x ≡ base) × (list_of x ≡ history) × (out ≡ 0)
+    AtHome history homes out = (x : S) × (homes ≡ some (Some x) ∷ [])
+        × (base_of x ≡ base) × (list_of x ≡ history) × (out ≡ 0)
 
     abbrev pub IsOut : List (maybe.Option (Option S)) → ℕ → Type 0
     IsOut homes out = (homes ≡ none ∷ []) × (out ≡ 1)
@@ -44,10 +46,12 @@ module _ {S B E : Type 0} (base_of : S → B) (first_of : B → ℕ) (list_of : 
       pub room : serving + holders < 2 ^ 64
       -- their tickets are the numbers from the one that is served on, each once
       pub tickets : (t : ℕ) → total (λ v. ticket_at t v.stage) s.views ≡ times t (numbers_from serving holders)
-      pub slot : AtHome history s.homes (total (λ v. slot_at v.stage) s.views) ⊎ IsOut s.homes (total (λ v. slot_at v.stage) s.views)
+      pub slot : AtHome history s.homes (total (λ v. slot_at v.stage) s.views)
+          ⊎ IsOut s.homes (total (λ v. slot_at v.stage) s.views)
       pub each : (j : ℕ) (v : View B E) → get_elem? s.views j ≡ some v → Fits serving history v
       -- every version stands in exactly one view's list
-      pub versions : (x : ℕ) → total (λ v. times x v.versions) s.views ≡ times x (versions_after (first_of base) (length history))
+      pub versions : (x : ℕ)
+          → total (λ v. times x v.versions) s.views ≡ times x (versions_after (first_of base) (length history))
       pub parts : total (λ v. v.parts) s.views ≡ PASS_PARTS
 
   abbrev pub Seated : Type 0
@@ -55,10 +59,12 @@ module _ {S B E : Type 0} (base_of : S → B) (first_of : B → ℕ) (list_of : 
 
   -- where the number of tickets was as expected, that ticket was drawn
   abbrev pub Draws : Step (Option S) → Seated → ℕ → Seated → Type 0
-  Draws st m found m' = (found ≡ st.first → (m'.0 ≡ at_stage (Waits st.first) m.0) × (m'.1 ≡ m.1)) × (found ≢ st.first → m' ≡ m)
+  Draws st m found m' = (found ≡ st.first → (m'.0 ≡ at_stage (Waits st.first) m.0) × (m'.1 ≡ m.1))
+      × (found ≢ st.first → m' ≡ m)
 
   abbrev pub TakesFor : ℕ → Seated → Seated → Type 0
-  TakesFor ticket m m' = (x : S) × (Some (base_of x) ≡ m.0.base) × IsPrefix m.0.seen (list_of x) × (m'.0 ≡ taken_view ticket (list_of x) m.0) × (m'.1 ≡ (0, Some x) ∷ m.1)
+  TakesFor ticket m m' = (x : S) × (Some (base_of x) ≡ m.0.base) × IsPrefix m.0.seen (list_of x)
+      × (m'.0 ≡ taken_view ticket (list_of x) m.0) × (m'.1 ≡ (0, Some x) ∷ m.1)
 
   -- where the number that is served is the view's ticket, the slot was taken
   abbrev pub WatchesAt : Stage → Seated → ℕ → Seated → Type 0
@@ -96,4 +102,5 @@ module _ {S B E : Type 0} (base_of : S → B) (first_of : B → ℕ) (list_of : 
 
   -- of the two lists of a view, the one begins the other
   abbrev pub Tells : Step (Option S) → Seated → ℕ → Seated → Type 0
-  Tells st m found m' = (m'.0 ≡ told_view m.0) × (m'.1 ≡ m.1) × (length m.0.also ≤ length m.0.seen → IsPrefix m.0.also m.0.seen)
+  Tells st m found m' = (m'.0 ≡ told_view m.0) × (m'.1 ≡ m.1)
+      × (length m.0.also ≤ length m.0.seen → IsPrefix m.0.also m.0.seen)

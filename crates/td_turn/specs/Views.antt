@@ -1,10 +1,11 @@
 -- What a seat at the turn's table knows, how a step changes it, and what all seats add up to.
 use Rattle.std.specs.Prelude.{ℕ, ◌+◌, ◌-◌, ◌==◌, List, [], ◌∷◌, ◌++◌, length, Option, Some, None}
+use Rattle.atomic_table.specs.Seated.{TableId}
 use Rattle.td_limits.specs.declared.limits.TheConstants.{PASS_PARTS}
 use Rattle.td_turn.specs.declared.rule.View.{View}
 use Rattle.td_turn.specs.declared.rule.Stage.{Stage}
 use Rattle.td_turn.specs.declared.rule.Stage.TheVariants.{Idle, Waits, Holds}
-use Rattle.td_turn.specs.Passes.{one_if, longer, shorter, versions_after}
+use Rattle.td_turn.specs.Passes.{PassShown, HeldShown, one_if, longer, shorter, versions_after}
 
 -- a sum over all views
 abbrev pub total : {A : Type 0} → (A → ℕ) → List A → ℕ
@@ -52,7 +53,22 @@ module _ {B E : Type 0} where
   -- two views in one. It keeps the shorter list beside the longer until it is told that the one begins the other
   abbrev pub joined_view : View B E → View B E → View B E
   joined_view v w =
-      record { base = v.base; seen = longer v.seen w.seen; also = shorter v.seen w.seen; versions = v.versions ++ w.versions; parts = v.parts + w.parts; stage = Idle }
+      record {
+        base = v.base;
+        seen = longer v.seen w.seen;
+        also = shorter v.seen w.seen;
+        versions = v.versions ++ w.versions;
+        parts = v.parts + w.parts;
+        stage = Idle;
+      }
 
   abbrev pub told_view : View B E → View B E
   told_view v = record v { also = [] }
+
+  -- what contracts see of a pass, and of the value while it is held
+  abbrev pub pass_shown : TableId → View B E → PassShown B E
+  pass_shown name v = record { name = name; base = v.base; seen = v.seen; versions = v.versions; parts = v.parts }
+
+  abbrev pub held_shown : {S : Type 0} → TableId → View B E → S → HeldShown S B E
+  held_shown name v x =
+      record { name = name; base = v.base; taken = v.seen; versions = v.versions; parts = v.parts; value = x }

@@ -1,4 +1,4 @@
-//! [run] The turn: a value that threads hold one after another, whose list of entries is the one history of all of them.
+//! [run] The turn: a value that threads hold one after another. Its list of entries is the history of all.
 //!
 //! A value says what it was opened on, its base, and which entries it stands for. A thread takes the value with a pass,
 //! adds entries, and gives it back. Tickets are served in the order in which they were drawn.
@@ -10,8 +10,8 @@
 //! versions that it notes, its parts, and its ticket. Six kinds of step change them, in any order between threads:
 //!
 //! - draw ticket: the number of tickets is raised by a compare and exchange, and where it wins the pass has that ticket;
-//! - watch serving: where the ticket that is served is the pass's own, the slot is taken, and the value's list was seen;
-//! - count front: the front is raised by the number of entries that were added, the list that they are in was seen, and
+//! - watch serving: where the ticket that is served is the pass's own, the slot is taken, and the value's list is seen;
+//! - count front: the front is raised by the number of entries that were added, the list that they are in is seen, and
 //!   their versions are noted;
 //! - pass on: the slot is given back, and the next ticket is served;
 //! - split: a second pass has seen the same and notes nothing;
@@ -19,10 +19,10 @@
 //!   front then tells that the shorter begins the longer.
 //!
 //! Between any two of them this holds. The front is the length of the history. What a pass saw begins the history. The
-//! tickets that passes have are the numbers from the one that is served up to the number drawn, each once. The slot is at
-//! home, with a value of the base that was opened whose list is the history; or the pass whose ticket is served has it,
-//! and has seen the history. Each version above the base's is noted by exactly one pass. All parts make 4294967296, and a
-//! pass without a part has no ticket and empty lists.
+//! tickets that passes have are the numbers from the one that is served up to the number drawn, each once. The slot is
+//! at home, with a value of the base that was opened whose list is the history; or the pass whose ticket is served has
+//! it, and has seen the history. Each version above the base's is noted by exactly one pass. All parts make 4294967296,
+//! and a pass without a part has no ticket and empty lists.
 //!
 //! # What it promises
 //!

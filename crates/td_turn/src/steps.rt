@@ -35,7 +35,8 @@ fn draw_at<V: Turned>(words: &Words<V>, seat: &mut TurnSeat<V>, next: u64) -> u6
     requires idle { (seat.old.me.0.stage ≡ Idle) × (0 < seat.old.me.0.parts) }
     requires last { next ≢ 18446744073709551615 }
     ensures table { seat.new.table_id ≡ seat.old.table_id }
-    ensures drawn { result ≡ next → (seat.new.me.0 ≡ at_stage (Waits next) seat.old.me.0) × (seat.new.me.1 ≡ seat.old.me.1) }
+    ensures drawn { result ≡ next
+        → (seat.new.me.0 ≡ at_stage (Waits next) seat.old.me.0) × (seat.new.me.1 ≡ seat.old.me.1) }
     ensures other { result ≢ next → seat.new.me ≡ seat.old.me }
 {
     words.compare_exchange::<Draw>(seat, TICKETS, next, next + 1)
@@ -130,7 +131,8 @@ pub(crate) fn count<V: Turned>(
     requires list { GoesOn entries seat.old.me.0.seen (V.list like.now.value) }
     requires room { V.first (V.base words.now.key.value) + length (V.list like.now.value) < 2 ^ 64 }
     ensures table { seat.new.table_id ≡ seat.old.table_id }
-    ensures counted { seat.new.me.0 ≡ counted_view (V.first (V.base words.now.key.value) + length seat.old.me.0.seen) entries (V.list like.now.value) seat.old.me.0 }
+    ensures counted { seat.new.me.0 ≡ counted_view
+        (V.first (V.base words.now.key.value) + length seat.old.me.0.seen) entries (V.list like.now.value) seat.old.me.0 }
     ensures slot { seat.new.me.1 ≡ seat.old.me.1 }
 {
     let _ = like;
@@ -168,12 +170,15 @@ pub(crate) fn split<V: Turned>(words: &Words<V>, seat: &mut TurnSeat<V>) -> Turn
 
 /// Joins another seat in, and is told that of the two lists that were seen the shorter begins the longer.
 pub(crate) fn merge<V: Turned>(words: &Words<V>, seat: &mut TurnSeat<V>, other: TurnSeat<V>)
-    requires table { (seat.old.table_id ≡ words.now.table_id) × (other.table_id ≡ words.now.table_id) × (words.now.table_id.words ≡ 3) }
+    requires table { (seat.old.table_id ≡ words.now.table_id) × (words.now.table_id.words ≡ 3) }
+    requires other { other.table_id ≡ words.now.table_id }
     requires idle { (seat.old.me.0.stage ≡ Idle) × (other.me.0.stage ≡ Idle) × (other.me.1 ≡ []) }
     requires parts { 0 < seat.old.me.0.parts }
     ensures table { seat.new.table_id ≡ seat.old.table_id }
-    ensures joined { (seat.new.me.0 ≡ told_view (joined_view seat.old.me.0 other.me.0)) × (seat.new.me.1 ≡ seat.old.me.1) }
-    ensures begins { IsPrefix seat.old.me.0.seen (longer seat.old.me.0.seen other.me.0.seen) × IsPrefix other.me.0.seen (longer seat.old.me.0.seen other.me.0.seen) }
+    ensures joined { seat.new.me.0 ≡ told_view (joined_view seat.old.me.0 other.me.0) }
+    ensures slots { seat.new.me.1 ≡ seat.old.me.1 }
+    ensures this_begins { IsPrefix seat.old.me.0.seen (longer seat.old.me.0.seen other.me.0.seen) }
+    ensures other_begins { IsPrefix other.me.0.seen (longer seat.old.me.0.seen other.me.0.seen) }
 {
     words.join_seat::<Merge>(seat, other);
     words.load::<Tell>(seat, FRONT);

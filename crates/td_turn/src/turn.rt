@@ -16,7 +16,8 @@ use std::sync::Wait;
 use td_layer::NoMem;
 use td_limits::PASS_PARTS;
 
-/// Who may have the value, one after another. Contracts see its name, which no other turn has, and the base of its value.
+/// Who may have the value, one after another. Contracts see its name, which no other turn has, and the base of its
+/// value.
 ///
 /// A turn that is dropped drops its value.
 #[derive(Drop)]
@@ -37,8 +38,8 @@ impl<V: Turned> Model for Turn<V> {
     ghost invariant = { λ t. (t.table.shared.table_id.words ≡ 3) × (t.table.shared.table_id.slots ≡ 1) };
 }
 
-/// The right to take turns. Contracts see the entries that its holder has seen, the versions that it notes, and how many
-/// of all parts it has. It has no bytes.
+/// The right to take turns. Contracts see the entries that its holder has seen, the versions that it notes, and how
+/// many of all parts it has. It has no bytes.
 ///
 /// Without a pass that was dropped the turn can't be closed.
 #[derive(Drop)]
@@ -50,18 +51,19 @@ impl<V: Turned> Model for Pass<V> {
     ghost use Rattle.std.specs.Prelude.{◌≡◌, ◌<◌, []};
     ghost use Rattle.td_turn.specs.Passes.{PassShown, coded_pass};
     ghost use Rattle.td_turn.specs.declared.rule.Stage.TheVariants.{Idle};
+    ghost use Rattle.td_turn.specs.Views.{pass_shown};
 
     ghost Value = { PassShown V.Base V.Entry };
 
     ghost coded = { coded_pass V.Base.code V.Entry.code };
 
-    ghost view = { λ p. record { name = p.seat.table_id; base = p.seat.me.0.base; seen = p.seat.me.0.seen; versions = p.seat.me.0.versions; parts = p.seat.me.0.parts } };
+    ghost view = { λ p. pass_shown p.seat.table_id p.seat.me.0 };
 
     ghost invariant = { λ p. (p.seat.me.1 ≡ []) × (p.seat.me.0.stage ≡ Idle) × (0 < p.seat.me.0.parts) };
 }
 
-/// The value while it is held, with the pass that it was taken with. Nobody else takes a turn until [`Turn::give`] gives
-/// it back, so it can't be dropped.
+/// The value while it is held, with the pass that it was taken with. Nobody else takes a turn until [`Turn::give`]
+/// gives it back, so it can't be dropped.
 pub struct Held<V: Turned> {
     seat: Seat<Option<V>, View<V::Base, V::Entry>>,
     value: V,
@@ -70,15 +72,16 @@ pub struct Held<V: Turned> {
 impl<V: Turned> Model for Held<V> {
     ghost use Rattle.std.specs.Prelude.{◌≡◌, ◌<◌, [], ◌∷◌, None};
     ghost use Rattle.td_turn.specs.Passes.{HeldShown, coded_held};
-    ghost use Rattle.td_turn.specs.Views.{slot_at};
+    ghost use Rattle.td_turn.specs.Views.{slot_at, held_shown};
 
     ghost Value = { HeldShown V V.Base V.Entry };
 
     ghost coded = { coded_held V.code V.Base.code V.Entry.code };
 
-    ghost view = { λ h. record { name = h.seat.table_id; base = h.seat.me.0.base; taken = h.seat.me.0.seen; versions = h.seat.me.0.versions; parts = h.seat.me.0.parts; value = h.value } };
+    ghost view = { λ h. held_shown h.seat.table_id h.seat.me.0 h.value };
 
-    ghost invariant = { λ h. (h.seat.me.1 ≡ (0, None) ∷ []) × (slot_at h.seat.me.0.stage ≡ 1) × (0 < h.seat.me.0.parts) };
+    ghost invariant = { λ h. (h.seat.me.1 ≡ (0, None) ∷ [])
+        × (slot_at h.seat.me.0.stage ≡ 1) × (0 < h.seat.me.0.parts) };
 }
 
 impl<V: Turned> Turn<V> {
@@ -119,8 +122,8 @@ impl<V: Turned> Turn<V> {
         Held { seat, value }
     }
 
-    /// Gives the value back, with `entries` further entries at the end of its list. The pass has then seen the whole list,
-    /// and notes the versions of these entries. It waits for nobody.
+    /// Gives the value back, with `entries` further entries at the end of its list. The pass has then seen the whole
+    /// list, and notes the versions of these entries. It waits for nobody.
     pub fn give(&self, held: Held<V>, entries: u64) -> Pass<V>
         requires turn { IsHeldOf self.now held }
         requires base { V.base held.value ≡ self.now.base }
@@ -128,7 +131,8 @@ impl<V: Turned> Turn<V> {
         requires room { V.first self.now.base + length (V.list held.value) < 2 ^ 64 }
         ensures turn { IsPassOf self.now result }
         ensures seen { result.seen ≡ V.list held.value }
-        ensures versions { result.versions ≡ held.versions ++ versions_after (V.first self.now.base + length held.taken) entries }
+        ensures versions { result.versions ≡ held.versions
+            ++ versions_after (V.first self.now.base + length held.taken) entries }
         ensures parts { result.parts ≡ held.parts }
     {
         let Held { mut seat, value } = held;
@@ -152,8 +156,8 @@ impl<V: Turned> Turn<V> {
         (Pass { seat }, Pass { seat: new })
     }
 
-    /// Joins two passes into one with the parts of both. It has seen what either has seen, of which the shorter begins the
-    /// longer, and notes the versions of both.
+    /// Joins two passes into one with the parts of both. It has seen what either has seen, of which the shorter begins
+    /// the longer, and notes the versions of both.
     pub fn join(&self, a: Pass<V>, b: Pass<V>) -> Pass<V>
         requires turn { IsPassOf self.now a × IsPassOf self.now b }
         ensures turn { IsPassOf self.now result }
@@ -168,14 +172,15 @@ impl<V: Turned> Turn<V> {
         Pass { seat }
     }
 
-    /// Ends the turn and gives its value, for a pass that every other was joined into. The value's list begins with what
-    /// the pass has seen, and the pass notes the version of each entry once, and no other.
+    /// Ends the turn and gives its value, for a pass that every other was joined into. The value's list begins with
+    /// what the pass has seen, and the pass notes the version of each entry once, and no other.
     pub fn close(self, pass: Pass<V>) -> V
         requires turn { IsPassOf self pass }
         requires whole { pass.parts ≡ PASS_PARTS }
         ensures base { V.base result ≡ self.base }
         ensures seen { IsPrefix pass.seen (V.list result) }
-        ensures versions { (n : ℕ) → times n pass.versions ≡ times n (versions_after (V.first self.base) (length (V.list result))) }
+        ensures versions { (n : ℕ) → times n pass.versions
+            ≡ times n (versions_after (V.first self.base) (length (V.list result))) }
     {
         let Turn { table } = self;
         let Pass { seat } = pass;
@@ -189,7 +194,8 @@ impl<V: Turned> Turn<V> {
 
 /// The value that is held, to be read and changed.
 pub fn value<'a, V: Turned>(held: &'a mut Held<V>) -> &'a mut V
-    ensures* writes_back { sem 𝓛 (Lends (the_row V.row V.Base.row V.Entry.row V.Turned) V.row held.entry result (λ w. record held.old { value = w })) }
+    ensures* writes_back { sem 𝓛 (Lends (the_row V.row V.Base.row V.Entry.row V.Turned) V.row held.entry result
+        (λ w. record held.old { value = w })) }
     ensures value { result.now ≡ held.old.value }
 {
     &mut held.value
