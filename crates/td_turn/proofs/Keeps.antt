@@ -1,24 +1,23 @@
 -- Drawing a ticket, watching the number that is served, counting the front, passing on and looking at the front keep the rule.
-use Rattle.std.proofs.Common.{◌≡◌, ◌≢◌, ◌⊎◌, ℕ, zero, suc, ◌+◌, ◌-◌, ◌^◌, ◌%◌, ◌<◌, ◌≤◌, eqb, List, [], ◌∷◌, ◌++◌, length, set, get_or, slice_index, refl, ap, sym, ◌∙◌, subst, inl, inr, ⊎_elim, arith, length-append, mod-eq_of_lt}
-use Rattle.std.specs.Prelude.{Option, Some, None, nat_eq}
-use mathlib.Core.Option.{some, none, some-injective, some-ne-none}
-use mathlib.Core.Option as maybe
+use Rattle.std.proofs.Common.{◌≡◌, ◌≢◌, ℕ, zero, suc, ◌+◌, ◌^◌, ◌%◌, ◌<◌, ◌≤◌, eqb, List, [], ◌∷◌, ◌++◌, length, set, slice_index, refl, ap, sym, ◌∙◌, subst, inl, inr, arith, length-append, mod-eq_of_lt}
+use Rattle.std.specs.Prelude.{Option, Some, nat_eq}
+use mathlib.Core.Option.{some, none}
 use mathlib.Core.List.{IsPrefix}
 use mathlib.Core.Logic.{dite}
 use native.Mathlib.Decide.{ℕ_discrete}
 use prog.Atomic.{either}
 use lib.ListN.{get_elem?}
-use Rattle.atomic_table.specs.Table.{State, Me, Step, Act, step, keeps, takes, gives, stepped, Valid, carried_after, put_back, rest, Allows}
+use Rattle.atomic_table.specs.Table.{State, Me, Act, step, keeps, takes, gives, stepped, Valid, carried_after, put_back, Allows}
 use Rattle.atomic_table.proofs.Lists.{set_again, exchanged}
 use Rattle.td_turn.specs.declared.rule.View.{View}
 use Rattle.td_turn.specs.declared.rule.Stage.{Stage}
 use Rattle.td_turn.specs.declared.rule.Stage.TheVariants.{Idle, Waits, Holds}
 use Rattle.td_turn.specs.Passes.{numbers_from, versions_after, times, one_if}
 use Rattle.td_turn.specs.Views.{total, ticket_at, slot_at, at_stage, taken_view, counted_view, told_view}
-use Rattle.td_turn.specs.Rule.{IsServed, Fits, AtHome, IsOut, IsKept, Draws, Watches, WatchesAt, Counts, Passes, Tells, list_in, list_if, first_if, front_of}
+use Rattle.td_turn.specs.Rule.{IsServed, AtHome, Draws, Watches, WatchesAt, Counts, Passes, Tells, list_in, first_if, front_of}
 use Rattle.td_turn.proofs.Totals.{total_set, total_same, part_le, two_le, total_behind}
-use Rattle.td_turn.proofs.Lists.{prefix_self, prefix_same, prefix_trans, prefix_shorter, numbers_append, times_append, times_first, one_if_le, one_if_same}
-use Rattle.td_turn.proofs.Seats.{K, Fit, M, fits_set, fits_idle, slot_same}
+use Rattle.td_turn.proofs.Lists.{prefix_self, prefix_same, prefix_trans, prefix_shorter, numbers_append, times_append, times_first, one_if_same}
+use Rattle.td_turn.proofs.Seats.{K, fits_set, fits_idle, slot_same}
 
 -- who holds the value has a ticket
 pub holding : (stage : Stage) → slot_at stage ≡ 1 → (t : ℕ) × (stage ≡ Holds t)

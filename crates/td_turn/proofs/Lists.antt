@@ -2,7 +2,7 @@
 use Rattle.std.proofs.Common.{◌≡◌, ◌≢◌, ℕ, zero, suc, ◌+◌, ◌<◌, ◌≤◌, eqb, eq-eqb, ltb-true, ltb-false, Bool, true, false, List, [], ◌∷◌, ◌++◌, length, refl, ap, sym, ◌∙◌, subst, arith, append_assoc, length-append}
 use Rattle.std.specs.Prelude.{nat_lt, ◌==◌}
 use mathlib.Core.List.{IsPrefix}
-use Rattle.td_turn.specs.Passes.{numbers_from, versions_after, one_if, times, second_if, longer, shorter}
+use Rattle.td_turn.specs.Passes.{numbers_from, one_if, times, second_if, longer, shorter}
 
 module _ {A : Type 0} where
   -- each list begins with itself

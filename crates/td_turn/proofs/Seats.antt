@@ -1,21 +1,20 @@
 -- A split, a join, a look at the front, the opening and the closing keep the rule.
-use Rattle.std.proofs.Common.{◌≡◌, ◌≢◌, ◌⊎◌, ℕ, zero, suc, ◌+◌, ◌-◌, ◌<◌, ◌≤◌, List, [], ◌∷◌, ◌++◌, length, set, refl, ap, sym, ◌∙◌, subst, inl, inr, ⊎_elim, arith, slice_index, get_or}
-use Rattle.std.specs.Prelude.{Option, Some, None}
+use Rattle.std.proofs.Common.{◌≡◌, ◌≢◌, ◌⊎◌, ℕ, zero, suc, ◌+◌, ◌<◌, ◌≤◌, List, [], ◌∷◌, ◌++◌, length, set, refl, ap, sym, ◌∙◌, subst, inl, inr, ⊎_elim, arith}
+use Rattle.std.specs.Prelude.{Option, Some}
 use mathlib.Core.Option.{some, none, some-injective, some-ne-none}
 use mathlib.Core.Option as maybe
 use mathlib.Core.List.{IsPrefix}
 use lib.ListN.{get_elem?}
-use Rattle.atomic_table.specs.Table.{State, Me, step, keeps, opening, stepped, Allows, Splits, Joins, Final, Seen}
-use Rattle.atomic_table.proofs.Lists.{at_set, at_snoc, set_again}
+use Rattle.atomic_table.specs.Table.{State, Me, opening, Splits, Joins, Final, Seen}
+use Rattle.atomic_table.proofs.Lists.{at_set, at_snoc}
 use Rattle.td_limits.specs.declared.limits.TheConstants.{PASS_PARTS}
 use Rattle.td_turn.specs.declared.rule.View.{View}
-use Rattle.td_turn.specs.declared.rule.Stage.{Stage}
-use Rattle.td_turn.specs.declared.rule.Stage.TheVariants.{Idle, Waits, Holds}
-use Rattle.td_turn.specs.Passes.{numbers_from, versions_after, times, longer, shorter}
-use Rattle.td_turn.specs.Views.{total, ticket_at, slot_at, opening_view, spent_view, kept_view, new_view, joined_view, told_view}
-use Rattle.td_turn.specs.Rule.{IsServed, Fits, AtHome, IsOut, IsKept, Tells}
-use Rattle.td_turn.proofs.Totals.{total_set, total_same, total_push, total_alone}
-use Rattle.td_turn.proofs.Lists.{prefix_self, prefix_shorter, second_is, times_append}
+use Rattle.td_turn.specs.declared.rule.Stage.TheVariants.{Idle}
+use Rattle.td_turn.specs.Passes.{versions_after, times}
+use Rattle.td_turn.specs.Views.{total, ticket_at, slot_at, opening_view, spent_view, kept_view, new_view, joined_view}
+use Rattle.td_turn.specs.Rule.{IsServed, Fits, AtHome, IsOut, IsKept}
+use Rattle.td_turn.proofs.Totals.{total_set, total_push, total_alone}
+use Rattle.td_turn.proofs.Lists.{second_is, times_append}
 
 module _ {S B E : Type 0} (base_of : S → B) (first_of : B → ℕ) (list_of : S → List E) (base : B) where
   abbrev pub K : State (Option S) (View B E) → Type 0

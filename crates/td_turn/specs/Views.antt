@@ -1,5 +1,5 @@
 -- What a seat at the turn's table knows, how a step changes it, and what all seats add up to.
-use Rattle.std.specs.Prelude.{ℕ, ◌+◌, ◌-◌, ◌==◌, List, [], ◌∷◌, ◌++◌, length, Option, Some, None}
+use Rattle.std.specs.Prelude.{ℕ, ◌+◌, ◌-◌, ◌==◌, List, [], ◌∷◌, ◌++◌, Some, None}
 use Rattle.atomic_table.specs.Seated.{TableId}
 use Rattle.td_limits.specs.declared.limits.TheConstants.{PASS_PARTS}
 use Rattle.td_turn.specs.declared.rule.View.{View}

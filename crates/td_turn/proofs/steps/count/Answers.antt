@@ -1,4 +1,4 @@
-use Rattle.std.proofs.Common.{rules, ℕ, ◌+◌, length, ap, ◌∙◌}
+use Rattle.std.proofs.Common.{rules, ◌+◌, length, ap, ◌∙◌}
 use Rattle.td_turn.specs.Views.{counted_view}
 use Rattle.td_turn.specs.Rule.{list_in, first_if}
 use Rattle.td_turn.proofs.Keeps.{counts, holding}

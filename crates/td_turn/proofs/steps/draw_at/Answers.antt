@@ -1,4 +1,4 @@
-use Rattle.std.proofs.Common.{rules, ◌≡◌, ℕ, ◌+◌, ◌^◌, ◌<◌, arith}
+use Rattle.std.proofs.Common.{rules, ◌+◌, ◌^◌, ◌<◌, arith}
 use Rattle.td_turn.proofs.Keeps.{draws}
 use Rattle.td_turn.proofs.steps.draw_at.Goals as goal
 

@@ -1,4 +1,4 @@
-use Rattle.std.proofs.Common.{rules, ◌≡◌, ℕ, ◌<◌, ap, ◌∙◌, arith}
+use Rattle.std.proofs.Common.{rules, ◌<◌, ap, ◌∙◌, arith}
 use Rattle.td_turn.proofs.Keeps.{watches}
 use Rattle.td_turn.proofs.steps.wait_for.Goals as goal
 

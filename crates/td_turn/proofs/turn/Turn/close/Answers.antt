@@ -1,4 +1,4 @@
-use Rattle.std.proofs.Common.{◌≡◌, ℕ, List, length, Some, None, sym, ap, ◌∙◌, subst}
+use Rattle.std.proofs.Common.{◌≡◌, List, length, Some, sym, ap, ◌∙◌, subst}
 use mathlib.Core.Option.{some-injective}
 use mathlib.Core.List.{IsPrefix}
 use Rattle.td_turn.specs.Passes.{times, versions_after}

@@ -1,4 +1,4 @@
-use Rattle.std.proofs.Common.{List, [], ◌∷◌, Option, Some, sym, ap, subst}
+use Rattle.std.proofs.Common.{List, [], ◌∷◌, Option, sym, ap, subst}
 use Rattle.atomic_table.specs.Table.{opening}
 use Rattle.td_turn.specs.Views.{opening_view}
 use Rattle.td_turn.proofs.Seats.{K, opens}
