@@ -1,4 +1,4 @@
-use Rattle.std.proofs.Common.{◌≡◌, ℕ, suc, ◌+◌, ◌≤◌, List, ◌++◌, ap, ◌∙◌, arith}
+use Rattle.std.proofs.Common.{ℕ, suc, ◌≤◌, List, ◌++◌, ap, ◌∙◌, arith}
 use Rattle.td_turn.specs.Passes.{numbers_from, versions_after}
 use Rattle.td_turn.proofs.Lists.{numbers_append, length_numbers}
 use Rattle.td_turn_tests.proofs.crowd.turn_once.Goals as goal
