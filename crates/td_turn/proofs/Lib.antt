@@ -1,0 +1,4 @@
+pub mod Totals
+pub mod Lists
+pub mod Seats
+pub mod Keeps
