@@ -1,4 +1,17 @@
-//! [formats] The fields that files share: numbers, texts, cells, columns, windows, and lists of them.
+//! [formats] The fields that files share: numbers, texts, cells, windows, and lists of them, read from the left.
+//!
+//! A function that reads a field takes the bytes from the field on, and answers the value with the bytes behind it.
+//! Where the field is cut short or breaks its rule, it answers how many bytes are left at the first byte of the
+//! first such field; so a place in a part of a file is a place in the file. A list is read by one loop, over an
+//! [`ItemReader`], which may look at the items before, so that an order or distinct names are its business.
+//!
+//! Promised: each function answers exactly what the definition of its field gives, unless memory runs out. Fields
+//! are made of fields, and it is proved of each that what is read is spelled so, byte for byte; that what fits and
+//! is spelled so is read, whatever stands behind it; and that a fault lies within the bytes. So a value has one
+//! spelling. The order of windows, and of the cells of their partitions, is a definition that `win_order` and
+//! `cell_order` equal.
+//!
+//! It stands on `td_cols` for numbers of a kind, on `td_layer` and `td_model` for cells and windows.
 #![tactic(auto)]
 
 mod fault;
