@@ -1,0 +1,5 @@
+pub mod FieldLaws
+pub mod ListLaws
+pub mod Loop
+pub mod Order
+pub mod ValueLaws

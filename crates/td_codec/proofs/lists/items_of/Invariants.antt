@@ -1,0 +1,9 @@
+use Rattle.std.proofs.Common.{◌≡◌, [], ◌-◌}
+use Rattle.td_codec.specs.Lists.{items_read}
+use Rattle.td_codec.proofs.Loop.{with_front}
+use Rattle.td_codec.proofs.lists.items_of.Given as goal
+
+abbrev pub invariant-loop : goal.invariant-loop
+invariant-loop g l =
+    (with_front l.items (items_read g.R.ItemReader.items l.items (l.count - l.counter) l.rest) ≡ items_read g.R.ItemReader.items [] l.count l.bytes)
+    × g.R.ItemReader.knows l.reader l.items
