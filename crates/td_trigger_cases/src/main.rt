@@ -1,10 +1,10 @@
-//! [tests] Cases of triggers and regions: each line of the input is a case, and its answer stands in the same line of the
-//! output.
+//! [tests] Cases of triggers and regions: each line of the input is a case, and its answer stands in the same line of
+//! the output.
 //!
 //! A case is a kind, a blank and a text. A line that is empty or begins with `#` is printed as it stands. The answers
-//! beside which the program's are compared were worked out from the definitions by hand. `windows` says how windows and
-//! ranges are written, and `regions` and `closing` what the cases look like. It stands on `td_trigger`, whose calls it
-//! asks, and on `td_cases`.
+//! beside which the program's are compared were worked out from the definitions by hand. `windows` says how windows
+//! and ranges are written, and `regions` and `closing` what the cases look like. It stands on `td_trigger`, whose
+//! calls it asks, and on `td_cases`.
 #![tactic(auto)]
 
 mod closing;

@@ -12,8 +12,8 @@ use td_model::WindowDef;
 use td_trigger::{Range, region};
 use td_window::Span;
 
-/// `region WINDOW|TOUCHED|OLD`, where TOUCHED and OLD are ranges with a blank between each two; OLD are those of the old
-/// windows, which intervals have none of: the regions, with a blank between each two.
+/// `region WINDOW|TOUCHED|OLD`, where TOUCHED and OLD are ranges with a blank between each two; OLD are those of the
+/// old windows, which intervals have none of: the regions, with a blank between each two.
 pub(crate) fn push_regions(out: &mut Out, alloc: Global, text: &str) -> Result<(), CaseFault> {
     let mut parts = text.split('|');
     let window = parts.next().unwrap_or("");

@@ -1,0 +1,34 @@
+//! [tests] Cases of the memtable: each line of the input is a call on one memtable, and the output has what they
+//! answer.
+//!
+//! `put TABLE TS VALUE` lays one cell, and the birth rises by one a put; `cut TABLE LO HI` cuts; `share` keeps the
+//! memtable as it is; `held` shows the count; `scan TABLE LO HI` shows the puts in the range, each with its birth,
+//! its cell and whether it lies in a cut, and `kept TABLE LO HI` those of the memtable that was shared; `tree N`
+//! makes a tree of N pairs, shares it, puts N more between them, and shows how many pairs the share and the tree
+//! walk, and the sum of their timestamps. What the output is compared with was worked out by hand. It stands on
+//! `td_memtable` and `td_memtree`, whose calls it asks, and on `td_cases`.
+#![tactic(auto)]
+
+mod lines;
+mod player;
+mod scans;
+mod shared_tree;
+
+use lines::play_all;
+use std::io::{self, BufRead, BufReader, BufWriter, Write};
+use std::marker::Brand;
+use std::sync::ledger::Blank;
+use td_cases::CaseFault;
+
+fn main(rt: HostRuntime) -> Result<(), CaseFault> {
+    let alloc = rt.alloc();
+    let mut lines = Vec::new(alloc);
+    for line in BufReader::new(alloc, rt.reader())?.lines(alloc) {
+        lines.push(line?)?;
+    }
+    let shown = play_all::<Brand>(alloc, lines.as_slice(), Blank::new(1))?;
+    let mut output = BufWriter::new(alloc, io::writer(&rt))?;
+    output.write_all(shown.as_slice())?;
+    output.flush()?;
+    Ok(())
+}
