@@ -1,4 +1,4 @@
-//! [answers] The answer of a row query over rows by key.
+//! [answers] The answer of a row query over rows by key. It stands in until the query engine answers every form.
 //!
 //! [`answer`] reads the rows of a plan's tables in the plan's range of timestamps and gives those of which all comparisons are
 //! true, in the order of the answer, or a part of them. It promises the answer of the definitions (`td_verdict`), which know no

@@ -1,5 +1,7 @@
 //! [run] The state that a script is played on: a catalog with its index of tags, rows by key, and a statement's turn on them.
 //!
+//! It stands in until a core with a log and files keeps the state.
+//!
 //! [`Tables`] stands for a state of `td_model`. [`Tables::turn`] judges a statement in it and does what it is accepted for:
 //! the reply, the journal's line and the next state are those that the verdict gives (`TurnAnswers` of `td_told`), or there
 //! was no memory, and then the state stays as it was. An entry is done whole or not at all: what can fail comes first.
