@@ -1,13 +1,14 @@
-//! [definitions] The types of statements, entries and reports, and the definitions that every layer above meets.
+//! [definitions] The types of statements, entries and reports, and the definitions that the crates above are proved to
+//! follow.
 //!
 //! The types are those of the statement language (`language`), of the catalog (`catalog`), of entries and verdicts
-//! (`history`), of windows and their results (`windows`), of the plan of a query (`plan`), and of reports (`report`); a copy
-//! equals what it copies. `built` has the one list of the forms of statement that are built. The definitions stand in
-//! `specs/`, one file a subject: `Catalog` (tables, supertables and streams by name and number, and what an entry makes of
-//! them), `State` (what an entry makes of a state, and a history of all its entries), `Built` (which statements are writes,
-//! and which are built), `Tags` (which subtables a comparison of a tag gives), `Text` (the bytes of a report) and
-//! `Printable` (which reports can be told from their texts). Those that widen with the forms of statement stand in
-//! `td_verdict` and `td_told`.
+//! (`history`), of windows and their results (`windows`), of the plan of a query (`plan`), and of reports (`report`); a
+//! copy equals what it copies. `built` has the one list of the forms of statement that are supported. The definitions
+//! stand in `specs/`, one file a subject: `Catalog` (tables, supertables and streams by name and number, and what an
+//! entry makes of them), `State` (what an entry makes of a state, and a history of all its entries), `Built` (which
+//! statements are writes, and which are supported), `Tags` (comparisons of cells, and the subtables that a condition on
+//! a tag picks), `Text` (the bytes of a report) and `Printable` (which reports can be told from their texts). Those
+//! that grow with the supported forms are in `td_verdict` and `td_told`.
 //!
 //! It stands on `td_limits`, `td_layer` and `td_cols`.
 #![tactic(auto)]

@@ -1,9 +1,9 @@
-//! [text] Scripts: which bytes are a script, and the statement lines that it has.
+//! [text] Scripts: which bytes are a script, and which statement lines it has.
 //!
-//! [`script`] cuts bytes into lines and tells of each what it is: nothing, a comment, a phase line, or a statement of
-//! one of 64 sessions. It promises that what it answers is the definition's answer, `specs/Script.antt`: exactly the
-//! statement lines with their phases, sessions, ordinals and texts where the bytes are a script, and else the first
-//! line of no form. The functions of `laws.rt` do nothing: their contracts are laws of that definition.
+//! [`script`] cuts bytes into lines, each of which is empty, a comment, a phase line, or a statement of one of 64
+//! sessions. It promises the answer of the definition, `specs/Script.antt`: if the bytes are a script, exactly its
+//! statement lines with their phases, sessions, ordinals and texts; otherwise the first invalid line. The functions of
+//! `laws.rt` do nothing: their contracts are laws of that definition.
 //!
 //! It stands on `td_layer` alone, for its lists.
 #![tactic(auto)]

@@ -1,9 +1,9 @@
 //! [base] Windows over rows whose timestamps don't fall.
 //!
-//! [`interval`], [`session`] and [`state`] cut a slice of timestamps into windows, each in one pass, and give a [`Span`]
-//! for each. It is promised that the spans are exactly the windows that hold a row, in order, each with exactly its
-//! rows, and that nothing overflows. The room that they take grows with the number of windows; want of memory is the
-//! only way to fail.
+//! [`interval`], [`session`] and [`state`] cut a slice of timestamps into windows, each in one pass, and give a
+//! [`Span`] for each. It is promised that the spans are exactly the windows that hold a row, in order, each with
+//! exactly its rows, and that nothing overflows. The room that they take grows with the number of windows; running out
+//! of memory is the only way to fail.
 //!
 //! What each kind of window is stands in `specs/Windows`. The crate stands on `td_limits` and `td_layer`.
 #![tactic(auto)]

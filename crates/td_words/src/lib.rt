@@ -1,11 +1,11 @@
-//! [run] Which words are a command of the program.
+//! [run] The command line: which words are a command of the program.
 //!
-//! [`read_command`] gives the command of the words, or none: so far `play` and one directory, whose name isn't empty and doesn't
-//! begin with `-` ([`is_dir`]). A word that begins with `-` makes no command. The rest of the words' grammar is told to `clap`, and its
-//! contracts show that the answer is exactly that of the definition, want of memory aside, which comes only at words that are
-//! a command.
+//! [`read_command`] gives the command that the words are, or says that they aren't one. So far the only command is
+//! `play` and one directory, whose name isn't empty and doesn't begin with `-` ([`is_dir`]). Words of which one begins
+//! with `-` are never a command. `clap` is given the rest of their grammar, and its contracts show that the answer is
+//! exactly that of the definition, unless memory runs out, which is answered only for words that are a command.
 //!
-//! The crate stands on `clap`, and on `td_layer` for want of memory.
+//! The crate stands on `clap`, and on `td_layer` for the error that memory ran out.
 #![tactic(auto)]
 
 ghost use Rattle.std.specs.Prelude.{◌≡◌, ◌↔◌, true, None, IfOk, IfErr, map, is_some, option_map, string_bytes};
