@@ -3,3 +3,4 @@ pub mod ListLaws
 pub mod Loop
 pub mod Order
 pub mod ValueLaws
+pub mod WritingLaws

@@ -1,15 +1,15 @@
 -- What holds of each item of a map still holds after a put, at a key, and of some of them.
-use Rattle.std.proofs.Common.{◌≡◌, ℕ, ◌+◌, ◌≤◌, Bool, true, false, cond, List, [], ◌∷◌, length, Option, Some, None, refl, arith, filter}
-use Rattle.std.specs.Prelude.{⊤, IfSome}
+use Rattle.std.proofs.Common.{◌≡◌, ◌≤◌, Bool, true, false, cond, List, [], ◌∷◌, length, Option, Some, None, refl, arith, filter}
+use Rattle.std.specs.Prelude.{IfSome}
 use Rattle.std.specs.List.{AllByRecursion}
-use Rattle.std.specs.Ordering.{is_eq, match_ordering}
+use Rattle.std.specs.Ordering.{match_ordering}
 use Rattle.std.specs.Map.{lookup}
-use Rattle.std.specs.BTreeMap.{insert_entry, is_at}
+use Rattle.std.specs.BTreeMap.{insert_entry}
 use Rattle.std.specs.declared.cmp.Ordering.{Ordering}
 use Rattle.std.specs.declared.cmp.Ordering.TheVariants.{Less, Equal, Greater}
 use Rattle.td_layer.specs.declared.values.Value.{Value}
-use Rattle.td_layer.specs.Columns.{IsColumnValue, AreColumnCells}
-use Rattle.td_layer.specs.Parts.{cell_over, cells_over}
+use Rattle.td_layer.specs.Columns.{AreColumnCells}
+use Rattle.td_layer.specs.Parts.{cells_over}
 
 module _ {K X : Type 0} (R : K → K → Ordering) (P : K × X → Type 0) where
   -- a fact of pairs that may look at the key too, where equal keys can't be told apart by it

@@ -1,3 +1,6 @@
 pub mod Kept
 pub mod Sound
 pub mod Scans
+pub mod Joining
+pub mod Rising
+pub mod OneJoin

@@ -1,6 +1,6 @@
 -- What a memtable stands for: the put of each key, the cuts, and how many parts it took.
-use Rattle.std.specs.Prelude.{ℕ, ◌+◌, ◌≤◌, ◌^◌, ◌-◌, max, nat_le, Bool, ◌&&◌, List, [], ◌∷◌, length, map, Option, Some, None, if◌then◌else◌}
-use Rattle.std.specs.List.{list_any, AllByRecursion}
+use Rattle.std.specs.Prelude.{ℕ, ◌+◌, ◌≤◌, ◌^◌, ◌-◌, max, nat_le, List, [], length, map, Option, Some, None, if◌then◌else◌}
+use Rattle.std.specs.List.{AllByRecursion}
 use Rattle.td_limits.specs.declared.limits.TheConstants.{MEMTABLE_PARTS}
 use Rattle.td_layer.specs.declared.values.Key.{Key}
 use Rattle.td_layer.specs.declared.parts.Partial.{Partial}
@@ -61,3 +61,4 @@ pub record IsSound (m : Contents) : Type 0 where
   pub puts : length m.puts ≤ m.held
   pub cuts : length m.cuts ≤ m.held
   pub cells : AllByRecursion (λ (e : Key × Partial). AreColumnCells e.1.cells) m.puts
+  pub ends : AllByRecursion (λ (c : Key × ℕ). c.0.ts ≤ c.1) m.cuts

@@ -15,7 +15,7 @@ use td_model::Put;
 /// The parts of the newest entries, in memory. Contracts see the put of each key, the cuts, and how many parts it took.
 #[derive(Drop)]
 pub struct Memtable {
-    alloc: Global,
+    pub(crate) alloc: Global,
     pub(crate) puts: Tree<Partial>,
     // By table and first timestamp, the last timestamp.
     pub(crate) cuts: Tree<u64>,

@@ -1,64 +1,44 @@
 //! Scans of a memtable.
-ghost use Rattle.std.specs.Prelude.{◌≡◌, ◌==◌, ◌&&◌, nat_le, false, [], Some};
+ghost use Rattle.std.specs.Prelude.{◌≡◌, false, true, [], Some, OnOk, OnErr};
+ghost use Rattle.td_layer.specs.Keys.{InKeyOrder};
 ghost use Rattle.td_memtree.specs.Within.{pairs_within};
-ghost use Rattle.td_layer.specs.Scans.{is_cut};
 ghost use Rattle.td_memtable.specs.Contents.{key_at, table_cuts};
 
+use crate::cuts::lies_in_any;
 use crate::memtable::Memtable;
 use std::marker::Model;
 use std::sync::ledger::Ledger;
-use td_layer::{Copied, Key, Partial, RowScan, ScanFault, Steps};
-use td_memtree::{Range, Tree};
+use td_layer::{Copied, Key, NoMem, Partial, RowScan, ScanFault, Seq, Steps};
+use td_memtree::Range;
 
 /// A scan of a memtable: the puts of a table in a range of timestamps, by key, with the table's cuts. Contracts see what is
-/// left of it.
+/// left of it. The first call of `next` joins the cuts, and `cut_at` then finds one by search.
 #[derive(Drop)]
 pub struct MemScan<'a> {
     table: u32,
     ahead: Option<(Key, &'a Partial)>,
     rest: Range<'a, Partial>,
-    cuts: &'a Tree<u64>,
-    begun: bool,
+    memtable: &'a Memtable,
+    // The ranges of the table's cuts, joined, once it has begun.
+    joined: Option<Seq<(u64, u64)>>,
 }
 
 impl<'a> Model for MemScan<'a> {
-    ghost use Rattle.td_memtable.specs.Contents.{table_cuts};
+    ghost use Rattle.std.specs.Prelude.{is_some, IfSome};
+    ghost use Rattle.td_memtable.specs.Contents.{ranges_of, table_cuts};
+    ghost use Rattle.td_memtable.specs.Joined.{IsJoinOf};
     ghost use Rattle.td_memtable.specs.Scanned.{Scanned, IsScan, puts_left};
 
     ghost Value = { Scanned };
 
-    ghost view = { λ s. record { left = puts_left s.ahead s.rest; cuts = table_cuts s.table s.cuts.now; begun = s.begun } };
+    ghost view = { λ s. record { left = puts_left s.ahead s.rest; cuts = table_cuts s.table s.memtable.now.cuts; begun = is_some s.joined } };
 
-    ghost invariant = { λ s. IsScan (puts_left s.ahead s.rest) };
-}
-
-fn lies_in(table: u32, lo: u64, hi: u64, key: Key) -> bool
-    ensures { result ≡ ((table == key.table) && (nat_le lo key.ts && nat_le key.ts hi)) }
-{
-    table == key.table && (lo <= key.ts && key.ts <= hi)
-}
-
-// Whether a key lies in a cut of a table.
-fn is_cut(cuts: &Tree<u64>, table: u32, key: Key) -> bool
-    ensures { result ≡ is_cut key (table_cuts table cuts.now) }
-{
-    let first = Key { table, ts: 0 };
-    let last = Key {
-        table,
-        ts: u64::MAX,
-    };
-    let mut rest = cuts.range(first, last);
-    while let Some((from, hi)) = rest.next() {
-        if lies_in(table, from.ts, *hi, key) {
-            return true;
-        }
-    }
-    false
+    ghost invariant = { λ s. IsScan (puts_left s.ahead s.rest) × IfSome s.joined (λ ranges. IsJoinOf ranges (ranges_of s.table s.memtable.now.cuts)) };
 }
 
 impl Memtable {
     /// The puts of a table, by number, from `lo` to `hi`, both among them, in the order of their keys, with the table's
-    /// cuts. It takes the time of a look-up, and then that of the puts that it gives.
+    /// cuts. It takes the time of a look-up, then that of the table's cuts, and then that of the puts that it gives.
     pub fn scan(&self, table: u32, lo: u64, hi: u64) -> MemScan<'_>
         ensures left { result.left ≡ pairs_within (key_at table lo) (key_at table hi) self.now.puts }
         ensures cuts { result.cuts ≡ table_cuts table self.now.cuts }
@@ -72,9 +52,27 @@ impl Memtable {
             table,
             ahead,
             rest,
-            cuts: &self.cuts,
-            begun: false,
+            memtable: self,
+            joined: None,
         }
+    }
+}
+
+impl<'a> MemScan<'a> {
+    // Joins the cuts, where that isn't done yet.
+    fn begin(&mut self) -> Result<(), NoMem>
+        ensures in_order { InKeyOrder self.old.left }
+        ensures left { self.new.left ≡ self.old.left }
+        ensures cuts { self.new.cuts ≡ self.old.cuts }
+        ensures ok { OnOk result (self.new.begun ≡ true) }
+        ensures err { OnErr result (self.new.begun ≡ self.old.begun) }
+        ensures stays_begun { self.old.begun ≡ true → self.new.begun ≡ true }
+    {
+        if self.joined.is_none() {
+            let joined = self.memtable.cuts(self.table)?;
+            self.joined = Some(joined);
+        }
+        Ok(())
     }
 }
 
@@ -93,19 +91,21 @@ impl<'a> RowScan for MemScan<'a> {
         &mut self,
         steps: &mut Steps<L>,
     ) -> Result<Option<(Key, Partial)>, ScanFault> {
+        self.begin()?;
         let Some((key, partial)) = self.ahead else {
-            self.begun = true;
             return Ok(None);
         };
         let given = partial.copy()?;
         self.ahead = self.rest.next();
-        self.begun = true;
         steps.tick();
         Ok(Some((key, given)))
     }
 
     fn cut_at(&self, key: Key) -> bool {
-        is_cut(self.cuts, self.table, key)
+        match &self.joined {
+            None => unreachable!(),
+            Some(ranges) => key.table == self.table && lies_in_any(ranges.as_slice(), key.ts),
+        }
     }
 
     fn faults(&self) -> u64 {

@@ -2,7 +2,7 @@
 ghost use Rattle.std.specs.Prelude.{◌≡◌, ◌<◌};
 
 use crate::player::Player;
-use crate::scans::push_scan;
+use crate::scans::{push_cuts, push_scan};
 use crate::shared_tree::push_shared;
 use std::alloc::Global;
 use std::sync::ledger::{Blank, Ledger};
@@ -74,6 +74,7 @@ fn play<L: Ledger>(
         "share" => player.share(),
         "scan" => push_scan(out, player.active(), numbers, steps),
         "kept" => push_scan(out, player.kept(), numbers, steps),
+        "cuts" => push_cuts(out, player.active(), numbers.table),
         "tree" => push_shared(out, alloc, numbers.table),
         _ => {
             push_count(out, player, name);

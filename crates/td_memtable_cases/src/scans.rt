@@ -22,6 +22,19 @@ pub(crate) fn push_scan<L: Ledger>(
     Ok(())
 }
 
+/// Adds the ranges of a table's cuts, joined, and `end`.
+pub(crate) fn push_cuts(out: &mut Out, memtable: &Memtable, table: u32) -> Result<(), CaseFault> {
+    let ranges = memtable.cuts(table)?;
+    for (lo, hi) in ranges.as_slice() {
+        out.number(i128::from(*lo));
+        out.push(b" to ");
+        out.number(i128::from(*hi));
+        out.push(b"\n");
+    }
+    out.push(b"end\n");
+    Ok(())
+}
+
 // Adds the next put of a scan, or `end`: whether there was one.
 fn push_next<L: Ledger>(
     out: &mut Out,

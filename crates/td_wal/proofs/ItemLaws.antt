@@ -1,12 +1,12 @@
 -- An item has one spelling.
-use Rattle.std.proofs.Common.{◌≡◌, ℕ, ◌+◌, ◌-◌, ◌<◌, ◌≤◌, Bool, true, false, cond, ltb, leb, eqb, List, [], ◌∷◌, ◌++◌, length, take, drop, Option, Some, None, Result, Ok, Err, refl, sym, ap, subst, ◌∙◌, arith}
+use Rattle.std.proofs.Common.{◌≡◌, ℕ, ◌+◌, ◌-◌, ◌≤◌, Bool, true, false, cond, ltb, leb, eqb, List, [], ◌++◌, length, take, drop, Some, Ok, Err, refl, sym, ap, subst, ◌∙◌, arith}
 use Rattle.std.specs.Prelude.{◌&&◌}
 use Rattle.std.specs.Int.{w8, w32, w64, to_le_bytes}
 use Rattle.std.proofs.lemmas.Bool.{and_parts, and_from, cond_both, cond-false, eqb-true, eq-eqb, ltb-false}
 use Rattle.std.proofs.lemmas.List.{append-nil, nil_from_length, take_at, drop_at, take-append-drop, length-take}
 use Rattle.td_cols.specs.Spelling.{AreBytes}
 use Rattle.td_limits.specs.declared.limits.TheConstants.{LAST_VERSION, LAST_TIMESTAMP, SESSIONS}
-use Rattle.td_codec.specs.Fields.{Read, Field, Takes, Within, SpellsOnce, number, unknown, checked, pair, followed, made, tagged, part_fits}
+use Rattle.td_codec.specs.Fields.{Read, Field, Takes, Within, SpellsOnce, number, checked, pair, followed}
 use Rattle.td_codec.specs.Values.{win_key_list, win_row_list}
 use Rattle.td_codec.proofs.FieldLaws.{AreBytes-take, AreBytes-drop, passed, passed_by, ok_is, long_enough, wide8, wide32, wide64, number_spells, unknown_spells, checked_spells, pair_spells, followed_spells, made_spells, made_tag, tagged_spells, within_cond, shorter, le_self}
 use Rattle.td_codec.proofs.ValueLaws.{some_is, win_key_list_spells, win_row_list_spells}

@@ -1,2 +1,7 @@
+pub mod AppendLaws
+pub mod AppendTold
+pub mod CrashLaws
 pub mod ItemLaws
 pub mod LogLaws
+pub mod ToldLaws
+pub mod WritingLaws

@@ -1,16 +1,15 @@
 -- What bytes are a log, and that they are one log at most.
-use Rattle.std.proofs.Common.{◌≡◌, ◌⊎◌, inl, inr, ℕ, suc, ◌+◌, ◌-◌, ◌<◌, ◌≤◌, Bool, true, false, List, [], ◌∷◌, ◌++◌, length, get_or, Result, Ok, Err, refl, sym, ap, subst, ◌∙◌, append_assoc, arith}
-use Rattle.std.specs.Prelude.{◌≢◌, ◌&&◌}
+use Rattle.std.proofs.Common.{◌≡◌, ◌⊎◌, inl, inr, ℕ, suc, ◌+◌, ◌-◌, ◌<◌, true, List, [], ◌∷◌, ◌++◌, length, get_or, Result, Ok, Err, refl, sym, ap, subst, ◌∙◌, append_assoc, arith}
+use Rattle.std.specs.Prelude.{◌≢◌}
 use Rattle.std.proofs.lemmas.Bool.{and_parts, and_from}
 use Rattle.std.proofs.lemmas.List.{append-nil, length_push, length-append}
 use Rattle.td_cols.specs.Spelling.{AreBytes}
-use Rattle.td_codec.specs.Fields.{Read, Takes}
 use Rattle.td_codec.proofs.FieldLaws.{ok_is}
 use Rattle.td_wal.specs.declared.item.LogItem.{LogItem}
 use Rattle.td_wal.specs.declared.reading.LogFault.{LogFault}
 use Rattle.td_wal.specs.declared.reading.LogFault.TheVariants as faults
 use Rattle.td_wal.specs.Items.{item, item_bytes}
-use Rattle.td_wal.specs.Log.{opened, items_fit, IsLog, last_moment, Breaks, BreaksAt, Answers}
+use Rattle.td_wal.specs.Log.{opened, items_fit, IsLog, LogAt, last_moment, Breaks, BreaksAt, Answers, AnswersAt}
 use Rattle.td_wal.proofs.ItemLaws.{item_takes, item_again}
 
 -- ---- one more item
@@ -78,6 +77,11 @@ reads_on first bytes read new rest version least gate more i next new_is r rest_
 pub read_is : (first : ℕ) (bytes : List ℕ) (read : List LogItem) (rest : List ℕ) (version least : ℕ) (gate : ℕ) (more : List ℕ) → ReadSoFar first bytes read rest version least → rest ≡ gate ∷ more → gate ≢ 1 → IsLog first bytes read
 read_is first bytes read rest version least gate more r rest_is shut =
     record { gate = gate; rest = more; closed = shut; bytes_are = r.bytes_are ∙ ap (λ (l : List ℕ). opened read ++ l) rest_is; fit = r.fit }
+
+-- and the gate stands at this place
+pub gate_is : (first : ℕ) (bytes : List ℕ) (read : List LogItem) (rest : List ℕ) (version least : ℕ) (gate : ℕ) (more : List ℕ) (at : ℕ) → ReadSoFar first bytes read rest version least → rest ≡ gate ∷ more → gate ≢ 1 → at ≡ length bytes - length rest → LogAt first read at bytes
+gate_is first bytes read rest version least gate more at r rest_is shut place =
+    record { log = read_is first bytes read rest version least gate more r rest_is shut; place = omega (arith, place, ap length r.bytes_are, length-append (opened read) rest) }
 
 read_breaks : (first : ℕ) (bytes : List ℕ) (read : List LogItem) (rest : List ℕ) (version least left at : ℕ) → ReadSoFar first bytes read rest version least → Breaks version least rest left → at ≡ length bytes - left → BreaksAt first bytes read at
 read_breaks first bytes read rest version least left at r breaks place =
@@ -194,3 +198,15 @@ answers_only first bytes (Err faults.NoMemory) items answer log = inr refl
 -- whatever stands behind a closed gate
 pub behind_gate : (first : ℕ) (items : List LogItem) (gate : ℕ) (rest other : List ℕ) → gate ≢ 1 → IsLog first (opened items ++ gate ∷ rest) items → IsLog first (opened items ++ gate ∷ other) items
 behind_gate first items gate rest other shut log = record { gate = gate; rest = other; closed = shut; bytes_are = refl; fit = log.fit }
+
+pub answers_at_only : (first : ℕ) (bytes : List ℕ) (r : Result (List LogItem × ℕ) LogFault) (items : List LogItem) (at : ℕ) → AnswersAt first bytes r → LogAt first items at bytes → (r ≡ Ok (items, at)) ⊎ (r ≡ Err faults.NoMemory)
+answers_at_only first bytes (Ok x) items at answer log =
+    let same = one_log first bytes x.0 items answer.log log.log in
+    let place : x.1 ≡ at = answer.place ∙ ap (λ (l : List LogItem). length (opened l)) same ∙ sym log.place in
+    inl (ap (λ (l : List LogItem). Ok (l, x.1)) same ∙ ap (λ (n : ℕ). Ok (items, n)) place)
+answers_at_only first bytes (Err (faults.NotThis at a)) items place answer log = absurd (log_or_break first bytes items a at log.log answer)
+answers_at_only first bytes (Err faults.NoMemory) items at answer log = inr refl
+
+pub fault_only : {A : Type 0} (first : ℕ) (bytes : List ℕ) (fault : LogFault) (x : A) (items : List LogItem) → AnswersAt first bytes (Err fault) → IsLog first bytes items → ◌≡◌ {A = Result A LogFault} (Err fault) (Ok x) ⊎ ◌≡◌ {A = Result A LogFault} (Err fault) (Err faults.NoMemory)
+fault_only first bytes (faults.NotThis at a) x items answer log = absurd (log_or_break first bytes items a at log answer)
+fault_only first bytes faults.NoMemory x items answer log = inr refl

@@ -1,5 +1,5 @@
 -- The items of a log as bytes.
-use Rattle.std.specs.Prelude.{◌≡◌, ℕ, ◌+◌, ◌-◌, ◌==◌, ◌&&◌, ◌++◌, nat_lt, nat_le, Bool, true, false, if◌then◌else◌, List, [], length, take, drop, Option, Some, None, Result, Ok, Err}
+use Rattle.std.specs.Prelude.{ℕ, ◌+◌, ◌-◌, ◌==◌, ◌&&◌, ◌++◌, nat_lt, nat_le, Bool, true, if◌then◌else◌, List, [], length, take, drop, Option, Some, None, Ok, Err}
 use Rattle.std.specs.Int.{w8, w32, w64, to_le_bytes}
 use Rattle.td_limits.specs.declared.limits.TheConstants.{LAST_VERSION, LAST_TIMESTAMP, SESSIONS}
 use Rattle.td_model.specs.declared.windows.WinKey.{WinKey}

@@ -1,3 +1,4 @@
+pub mod Append
 pub mod Items
 pub mod Log
 pub mod Parts

@@ -1,6 +1,5 @@
 -- The bytes of a log.
 use Rattle.std.specs.Prelude.{◌≡◌, ◌≢◌, ℕ, ◌+◌, ◌-◌, ◌&&◌, Bool, true, List, [], ◌∷◌, ◌++◌, length, Result, Ok, Err}
-use Rattle.td_codec.specs.Fields.{Field}
 use Rattle.td_wal.specs.Items.{item, item_bytes}
 use Rattle.td_wal.specs.declared.item.LogItem.{LogItem}
 use Rattle.td_wal.specs.declared.reading.LogFault.{LogFault}
@@ -24,6 +23,11 @@ pub record IsLog (first : ℕ) (bytes : List ℕ) (items : List LogItem) : Type 
   pub closed : gate ≢ 1
   pub bytes_are : bytes ≡ opened items ++ gate ∷ rest
   pub fit : items_fit first 0 items ≡ true
+
+-- the same, and the closed gate stands at this place
+pub record LogAt (first : ℕ) (items : List LogItem) (at : ℕ) (bytes : List ℕ) : Type 0 where
+  pub log : IsLog first bytes items
+  pub place : at ≡ length (opened items)
 
 -- the moment of the last of some items, or this one
 abbrev pub last_moment : ℕ → List LogItem → ℕ
@@ -50,3 +54,9 @@ abbrev pub Answers : ℕ → List ℕ → Result (List LogItem) LogFault → Typ
 Answers first bytes (Ok items) = IsLog first bytes items
 Answers first bytes (Err (faults.NotThis at items)) = BreaksAt first bytes items at
 Answers first bytes (Err faults.NoMemory) = Unit {0}
+
+-- the same of an answer with the place of the closed gate
+abbrev pub AnswersAt : ℕ → List ℕ → Result (List LogItem × ℕ) LogFault → Type 0
+AnswersAt first bytes (Ok x) = LogAt first x.0 x.1 bytes
+AnswersAt first bytes (Err (faults.NotThis at items)) = BreaksAt first bytes items at
+AnswersAt first bytes (Err faults.NoMemory) = Unit {0}

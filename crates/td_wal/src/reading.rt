@@ -5,7 +5,7 @@ ghost use Rattle.td_codec.specs.Fields.{Gives, checked, number};
 ghost use Rattle.td_wal.specs.Items.{all_bytes, enclosed, version_field, moment_field, session_field, item_head, ItemHead, step_head, step, is_step_of, body_form, body, item};
 ghost use Rattle.td_wal.specs.declared.item.LogItem.{LogItem as Item};
 ghost use Rattle.td_wal.specs.declared.reading.LogFault.TheVariants as faults;
-ghost use Rattle.td_wal.specs.Log.{IsLog, Answers};
+ghost use Rattle.td_wal.specs.Log.{IsLog, LogAt, Answers, AnswersAt};
 ghost use Rattle.td_wal.specs.Parts.{head_parts, step_parts, step_head_parts};
 
 use crate::item::{LogBody, LogItem};
@@ -237,10 +237,10 @@ fn item_of(
     ))
 }
 
-/// The items of a log, or where its form breaks.
-#[tactic(auto, using(crate::proofs::LogLaws::read_is, crate::proofs::LogLaws::ends_broken, crate::proofs::LogLaws::ends_short))]
-fn items_of(alloc: Global, bytes: &[u8], first: u64) -> Result<Seq<LogItem>, LogFault>
-    ensures { Answers first bytes.now result }
+/// The items of a log with the place of its closed gate, or where its form breaks.
+#[tactic(auto, using(crate::proofs::LogLaws::gate_is, crate::proofs::LogLaws::ends_broken, crate::proofs::LogLaws::ends_short))]
+fn items_of(alloc: Global, bytes: &[u8], first: u64) -> Result<(Seq<LogItem>, u64), LogFault>
+    ensures { AnswersAt first bytes.now result }
 {
     let mut items = Seq::new(alloc);
     let mut rest = bytes;
@@ -248,7 +248,8 @@ fn items_of(alloc: Global, bytes: &[u8], first: u64) -> Result<Seq<LogItem>, Log
     let mut least = 0;
     while let Some((gate, more)) = rest.split_first() {
         if *gate != 1 {
-            return Ok(items);
+            let at = bytes.len().saturating_sub(rest.len()) as u64;
+            return Ok((items, at));
         }
         match item_of(alloc, version, least, more) {
             Ok((item, next)) => {
@@ -275,6 +276,19 @@ pub fn read_all(alloc: Global, bytes: &[u8], first: u64) -> Result<Seq<LogItem>,
     ensures exact { Answers first bytes.now result }
     // A log is read, unless memory runs out.
     ensures only { (items : List Item) → IsLog first bytes.now items → (result ≡ Ok items) ⊎ (result ≡ Err faults.NoMemory) }
+{
+    let (items, _) = items_of(alloc, bytes, first)?;
+    Ok(items)
+}
+
+/// The same with the place of the gate that isn't open, where the next item is appended.
+pub fn read_to_gate(
+    alloc: Global,
+    bytes: &[u8],
+    first: u64,
+) -> Result<(Seq<LogItem>, u64), LogFault>
+    ensures exact { AnswersAt first bytes.now result }
+    ensures only { (items : List Item) (at : ℕ) → LogAt first items at bytes.now → (result ≡ Ok (items, at)) ⊎ (result ≡ Err faults.NoMemory) }
 {
     items_of(alloc, bytes, first)
 }

@@ -1,0 +1,11 @@
+pub mod Many
+pub mod Loops
+pub mod Bitmaps
+pub mod ColumnLaws
+pub mod RowLaws
+pub mod BlockLaws
+pub mod HoldLaws
+pub mod ReadLaws
+pub mod HeaderLaws
+pub mod Written
+pub mod WrittenBlocks
