@@ -14,10 +14,10 @@ use std::alloc::Global;
 use td_fields::{comparisons, shown_places};
 use td_layer::{Cell, NoMem, Seq};
 use td_model::Plan;
-use td_rows::RowMap;
+use td_rows::RowsByKey;
 
 // That part of what is shown of the rows that a plan picks.
-fn shown_of<M: RowMap>(
+fn shown_of<M: RowsByKey>(
     alloc: Global,
     plan: &Plan,
     rows: &M,
@@ -40,7 +40,7 @@ fn shown_of<M: RowMap>(
 /// A part of the answer of a plan over rows: of its rows, in their order, without the first `skip`, at most `count`. The order is by
 /// timestamp, then by table, or the reverse; then OFFSET, then LIMIT. The whole answer has fewer than 2^63 rows. A negative OFFSET or LIMIT counts as 0. `Err(NoMem)` is want
 /// of memory.
-pub fn answer<M: RowMap>(
+pub fn answer<M: RowsByKey>(
     alloc: Global,
     plan: &Plan,
     rows: &M,

@@ -11,7 +11,7 @@ use std::alloc::Global;
 use std::collections::BTreeMap;
 use td_layer::{Cell, Name, NoMem, Seq};
 use td_model::{Column, OrderBy, Plan};
-use td_rows::RowMap;
+use td_rows::RowsByKey;
 use td_verdict::Comparison;
 
 // A row's timestamp, in milliseconds since 1970, and its table, by number. They are ordered by timestamp, then by table.
@@ -64,7 +64,7 @@ fn put_held<'a>(
 }
 
 // Picks from the rows of a table that a plan reads.
-fn pick_table<'a, M: RowMap>(
+fn pick_table<'a, M: RowsByKey>(
     plan: &Plan,
     comparisons: &[Comparison],
     table: &Table<'a>,
@@ -91,7 +91,7 @@ fn pick_table<'a, M: RowMap>(
 }
 
 // Picks from the rows of all tables that a plan reads.
-pub(crate) fn pick_all<'a, M: RowMap>(
+pub(crate) fn pick_all<'a, M: RowsByKey>(
     alloc: Global,
     plan: &'a Plan,
     comparisons: &[Comparison],

@@ -7,6 +7,7 @@ use Rattle.std.specs.Ordering.{is_eq}
 use Rattle.std.specs.declared.ops.Bound.TheVariants.{Included, Excluded}
 use Rattle.std.proofs.lemmas.Bool.Decides.{nat_tests}
 use Rattle.std.proofs.lemmas.List.Elements.{filter_agree}
+use Rattle.td_memtree.specs.Within.{is_within, pairs_within, pairs_without}
 use Rattle.td_layer.specs.declared.values.Key.{Key}
 use Rattle.td_layer.specs.declared.values.Row.{Row}
 use Rattle.td_model.specs.State.{Rows, key_cmp, is_cut, row_at}
@@ -25,6 +26,19 @@ contains_none table lo hi k h = grind (arith, nat_tests)
 pub between_none : (table lo hi : ℕ) (rows : Rows) → hi < lo → entries_between key_cmp (Included (record { table = table; ts = lo })) (Excluded (record { table = table; ts = lo })) rows ≡ filter (λ e. is_cut table lo hi e.0) rows
 between_none table lo hi rows h =
     filter_agree (λ (e : Key × Row). range_contains key_cmp (Included (record { table = table; ts = lo })) (Excluded (record { table = table; ts = lo })) e.0) (λ (e : Key × Row). is_cut table lo hi e.0) (λ e. contains_none table lo hi e.0 h) rows
+
+-- ---- a range of keys of a tree
+
+within_is : (table lo hi : ℕ) (k : Key) → is_within (record { table = table; ts = lo }) (record { table = table; ts = hi }) k ≡ is_cut table lo hi k
+within_is table lo hi k = grind (arith, nat_tests)
+
+pub pairs_within_is : (table lo hi : ℕ) (tree rows : Rows) → tree ≡ rows → pairs_within (record { table = table; ts = lo }) (record { table = table; ts = hi }) tree ≡ filter (λ e. is_cut table lo hi e.0) rows
+pairs_within_is table lo hi tree rows is =
+    rw is (filter_agree (λ (e : Key × Row). is_within (record { table = table; ts = lo }) (record { table = table; ts = hi }) e.0) (λ (e : Key × Row). is_cut table lo hi e.0) (λ e. within_is table lo hi e.0) rows)
+
+pub pairs_without_is : (table lo hi : ℕ) (tree rows : Rows) → tree ≡ rows → pairs_without (record { table = table; ts = lo }) (record { table = table; ts = hi }) tree ≡ filter (λ e. not (is_cut table lo hi e.0)) rows
+pairs_without_is table lo hi tree rows is =
+    rw is (filter_agree (λ (e : Key × Row). not (is_within (record { table = table; ts = lo }) (record { table = table; ts = hi }) e.0)) (λ (e : Key × Row). not (is_cut table lo hi e.0)) (λ e. ap not (within_is table lo hi e.0)) rows)
 
 -- ---- a cut
 

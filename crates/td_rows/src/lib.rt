@@ -1,17 +1,25 @@
-//! [store] Rows by key: found by search, put whole or not at all, and read in a range of a table.
+//! [store] Rows by key: found by search, put, cut, and read in a range of a table.
 //!
-//! [`OrderedRows`] keeps rows in an ordered map. Puts lay their cells over the rows of their keys, one after another, and where
-//! memory fails at one of them those before it are undone, so that all rows are as they were. A cut and the retention edge remove
-//! the rows that they name and no others, and take no memory; a cut visits the rows of its range alone. The rows of a range are lent
-//! in the order of their timestamps, from either end, and none is copied. [`RowMap`] is what a caller needs of it.
+//! [`RowTree`] keeps rows in a persistent tree: each change gives a new tree, shares with the old one what it doesn't touch, and
+//! leaves the old one as it was, so whoever reads the old one goes on undisturbed. Puts lay their cells over the rows of their
+//! keys, one after another; a cut and the retention edge leave out the rows that they name and no others.
 //!
-//! It stands in until rows lie in a memtable and in files. It stands on `td_model` for the definitions (`State`) and on `td_layer`
-//! for the types.
+//! [`OrderedRows`] keeps rows in an ordered map that is changed in place. Where memory fails at one of several puts, those before
+//! it are undone, so that all rows are as they were; cuts take no memory. [`RowMap`] is what a caller needs of it.
+//!
+//! [`RowsByKey`] is what a reader needs of either: the rows of a range are lent in the order of their timestamps, and none is copied.
+//!
+//! Both stand in until rows lie in a memtable and in files. It stands on `td_model` for the definitions (`State`), on `td_memtree`
+//! for the tree, and on `td_layer` for the types.
 #![tactic(auto)]
 
 mod lay;
+mod lent;
 mod ordered;
 mod rows;
+mod tree;
 
+pub use lent::RowsIn;
 pub use ordered::OrderedRows;
-pub use rows::RowMap;
+pub use rows::{RowMap, RowsByKey};
+pub use tree::RowTree;

@@ -5,7 +5,8 @@ ghost use Rattle.td_rows.specs.Puts.{row_after, rows_after};
 ghost use Rattle.td_rows.specs.Before.{row_before, rows_before};
 
 use crate::lay::lay;
-use crate::rows::RowMap;
+use crate::lent::{Lent, RowsIn};
+use crate::rows::{RowMap, RowsByKey};
 use std::alloc::Global;
 use std::collections::BTreeMap;
 use std::collections::btree_map::Range;
@@ -72,22 +73,42 @@ impl OrderedRows {
         Ok(before)
     }
 
+    // The rows of a table's range.
+    fn between(&self, table: u32, lo: u64, hi: u64) -> Range<'_, Key, Row>
+        ensures { result ≡ filter (λ e. is_cut table lo hi e.0) self.now.map.entries }
+    {
+        let from = Key { table, ts: lo };
+        if hi < lo {
+            return self.map.range(from..from);
+        }
+        let to = Key { table, ts: hi };
+        self.map.range((Bound::Included(from), Bound::Included(to)))
+    }
+
     // The first key of a table's range, if there is one.
     fn first_in(&self, table: u32, lo: u64, hi: u64) -> Option<Key>
         ensures key { IfSome result (λ key. is_cut table lo hi key ≡ true) }
         ensures there { IfSome result (λ key. is_some (row_at key self.now.map.entries) ≡ true) }
         ensures none { IfNone result (filter (λ e. is_cut table lo hi e.0) self.now.map.entries ≡ []) }
     {
-        match self.range(table, lo, hi).next() {
+        match self.between(table, lo, hi).next() {
             Some((key, _)) => Some(*key),
             None => None,
         }
     }
 }
 
-impl RowMap for OrderedRows {
+impl RowsByKey for OrderedRows {
     ghost rows = { λ m. m.map.entries };
 
+    fn range(&self, table: u32, lo: u64, hi: u64) -> RowsIn<'_> {
+        RowsIn {
+            rows: Lent::Map(self.between(table, lo, hi)),
+        }
+    }
+}
+
+impl RowMap for OrderedRows {
     fn put_all(&mut self, moment: u64, puts: &[Put]) -> Result<(), NoMem> {
         let mut log = Vec::new(self.alloc);
         log.reserve(puts.len())?;
@@ -111,14 +132,5 @@ impl RowMap for OrderedRows {
 
     fn keep_from(&mut self, ts: u64) {
         self.map.retain(|key, _| ts <= key.ts);
-    }
-
-    fn range(&self, table: u32, lo: u64, hi: u64) -> Range<'_, Key, Row> {
-        let from = Key { table, ts: lo };
-        if hi < lo {
-            return self.map.range(from..from);
-        }
-        let to = Key { table, ts: hi };
-        self.map.range((Bound::Included(from), Bound::Included(to)))
     }
 }

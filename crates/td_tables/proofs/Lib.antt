@@ -1,4 +1,5 @@
 pub mod Answered
 pub mod Subtables
+pub mod Parts
 pub mod Steps
 pub mod Turns

@@ -6,21 +6,22 @@ use Rattle.td_model.specs.declared.history.What.TheVariants as what
 use Rattle.td_model.specs.declared.history.Entry.{Entry}
 use Rattle.td_model.specs.Catalog.{Catalog, with_what, table_at}
 use Rattle.td_model.specs.State.{State, effect, step, put_all, parent_of, latest_raised}
+use Rattle.td_told.specs.Journal.{halt_at}
 use Rattle.td_rows.specs.Puts.{rows_after, row_after}
 use Rattle.td_tables.specs.Latest.{raised_all, raised_by}
 use Rattle.td_tables.specs.Contents.{Kept, kept_after, state_of}
 
 -- what puts leave
 abbrev after_puts : List Put → ℕ → ℕ → Catalog → Kept → State
-after_puts puts version moment c k = state_of version moment c (record k { rows = rows_after moment puts k.rows; latest = raised_all c puts k.latest })
+after_puts puts version moment c k = state_of version moment c (record k { rows = rows_after moment puts k.rows; greatest = raised_all c puts k.greatest })
 
-one : (parent : Option ℕ) (p : Put) (version moment : ℕ) (c : Catalog) (k : Kept) → latest_raised parent p.key (state_of version moment c (record k { rows = row_after moment p k.rows })) ≡ state_of version moment c (record k { rows = row_after moment p k.rows; latest = raised_by parent p.key k.latest })
+one : (parent : Option ℕ) (p : Put) (version moment : ℕ) (c : Catalog) (k : Kept) → latest_raised parent p.key (state_of version moment c (record k { rows = row_after moment p k.rows })) ≡ state_of version moment c (record k { rows = row_after moment p k.rows; greatest = raised_by parent p.key k.greatest })
 one None p version moment c k = refl
 one (Some stable) p version moment c k = refl
 
 all : (puts : List Put) (version moment : ℕ) (c : Catalog) (k : Kept) → put_all puts (state_of version moment c k) ≡ after_puts puts version moment c k
 all [] version moment c k = refl
-all (p ∷ ps) version moment c k = ap (put_all ps) (one (parent_of (table_at p.key.table c)) p version moment c k) ∙ all ps version moment c (record k { rows = row_after moment p k.rows; latest = raised_by (parent_of (table_at p.key.table c)) p.key k.latest })
+all (p ∷ ps) version moment c k = ap (put_all ps) (one (parent_of (table_at p.key.table c)) p version moment c k) ∙ all ps version moment c (record k { rows = row_after moment p k.rows; greatest = raised_by (parent_of (table_at p.key.table c)) p.key k.greatest })
 
 effect_is : (past : List State) (w : What) (version moment : ℕ) (c : Catalog) (k : Kept) → state_of version moment (with_what w c) (kept_after w version moment c k) ≡ effect past w (state_of version moment c k)
 effect_is past (what.MakeStable name schema) version moment c k = refl
@@ -35,7 +36,11 @@ effect_is past (what.Step stream upto moment') version moment c k = refl
 effect_is past what.Halt version moment c k = refl
 
 -- the state after an entry that is taken in
-pub stepped : (s : State) (x : Entry) (version moment : ℕ) (c d e : Catalog) (k l : Kept) → state_of version moment c k ≡ s → d ≡ c → l ≡ kept_after x.what (version + 1) x.moment d k → e ≡ with_what x.what d → state_of (version + 1) x.moment e l ≡ step (s ∷ []) x
-stepped s x version moment c d e k l is same kept changed =
+pub stepped : (s : State) (x : Entry) (version moment : ℕ) (c d : Catalog) (k l : Kept) → state_of version moment c k ≡ s → l ≡ kept_after x.what (version + 1) x.moment c k → d ≡ with_what x.what c → state_of (version + 1) x.moment d l ≡ step (s ∷ []) x
+stepped s x version moment c d k l is kept changed =
     let plain : state_of (version + 1) x.moment (with_what x.what c) (kept_after x.what (version + 1) x.moment c k) ≡ step (s ∷ []) x = effect_is (state_of version moment c k ∷ []) x.what (version + 1) x.moment c k ∙ ap (λ t. step (t ∷ []) x) is in
-    rw (kept, changed, same) plain
+    rw (kept, changed) plain
+
+-- the state after a halt
+pub stopped : (s : State) (version moment m : ℕ) (c : Catalog) (k l : Kept) → state_of version moment c k ≡ s → l ≡ record k { halt = Some (version + 1) } → state_of (version + 1) m c l ≡ step (s ∷ []) (halt_at m)
+stopped s version moment m c k l is kept = stepped s (halt_at m) version moment c c k l is kept refl

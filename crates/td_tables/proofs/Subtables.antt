@@ -69,5 +69,5 @@ subtables_after (what.Edge edge) v m c k e = e
 subtables_after (what.Step stream upto moment) v m c k e = e
 subtables_after what.Halt v m c k e = e
 
-pub kept_right : (w : What) (v m : ℕ) (c d e : Catalog) (k l : Kept) → k.subtables ≡ subtables_of c → d ≡ c → l ≡ kept_after w v m d k → e ≡ with_what w d → l.subtables ≡ subtables_of e
-kept_right w v m c d e k l right same kept changed = rw (kept, changed) (subtables_after w v m d k (right ∙ ap subtables_of (sym same)))
+pub kept_right : (w : What) (v m : ℕ) (c d : Catalog) (k l : Kept) → k.subtables ≡ subtables_of c → l ≡ kept_after w v m c k → d ≡ with_what w c → l.subtables ≡ subtables_of d
+kept_right w v m c d k l right kept changed = rw (kept, changed) (subtables_after w v m c k right)

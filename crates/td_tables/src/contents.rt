@@ -1,50 +1,70 @@
 //! What is kept beside the catalog.
-ghost use Rattle.std.specs.Prelude.{◌≡◌, [], OnOk, OnErr, None};
+ghost use Rattle.std.specs.Prelude.{◌≡◌, [], IfOk, None, Some};
 ghost use Rattle.td_catalog.specs.Kept.{CanFollow};
 ghost use Rattle.td_verdict.specs.Plans.{subtables_of};
-ghost use Rattle.td_tables.specs.Contents.{kept_after};
+ghost use Rattle.td_tables.specs.Contents.{kept_after, placed, noted, part_of, HasPlace, HasLatestRoom, HasRoomBeside};
 
-use crate::latest::{Latest, add, raise_all};
+use crate::latest::Latest;
 use std::alloc::Global;
 use std::marker::Model;
 use td_catalog::Catalog;
-use td_layer::{NoMem, Seq};
+use td_layer::NoMem;
 use td_limits::DAY_RANGE;
 use td_model::{Entry, What};
-use td_rows::RowMap;
-use td_tagidx::TagIndex;
+use td_rows::RowTree;
+use td_tagidx::{TagChange, TagIndex};
 
 /// The subtables by their tags, the greatest timestamps that were ever put, the rows, the retention edge, and the version
 /// of the halt, if there is one.
 #[derive(Drop)]
-pub(crate) struct Contents<M: RowMap> {
+pub(crate) struct Contents {
     index: TagIndex,
     latest: Latest,
-    rows: M,
+    rows: RowTree,
     edge: u32,
     halt: Option<u64>,
 }
 
-impl<M: RowMap> Model for Contents<M> {
-    ghost use Rattle.td_tables.specs.Contents.{Kept};
+impl Model for Contents {
+    ghost use Rattle.td_tables.specs.Contents.{ContentsHeld};
 
-    ghost Value = { Kept };
+    ghost Value = { ContentsHeld };
 
-    ghost view = { λ s. record { subtables = s.index.subtables; latest = s.latest; rows = M.rows s.rows; edge = s.edge; halt = s.halt } };
+    ghost view = { λ s. record {
+      kept = record {
+        subtables = s.index.subtables;
+        greatest = s.latest.greatest;
+        rows = s.rows;
+        edge = s.edge;
+        halt = s.halt;
+      };
+      room = record { subtables = s.index.room; stables = s.latest.stable_room; tables = s.latest.table_room };
+    } };
 }
 
-impl<M: RowMap> Contents<M> {
-    // Nothing is kept yet, but the rows of a map.
-    pub(crate) fn new(alloc: Global, rows: M) -> Contents<M>
-        ensures { result ≡ record { subtables = []; latest = record { stables = []; tables = [] }; rows = M.rows rows; edge = 0; halt = None } }
+/// What an entry needs of memory beside the catalog: the tags of a subtable, or the rows after it.
+#[derive(Drop)]
+pub enum Part {
+    Nothing,
+    Subtable(TagChange),
+    Rows(RowTree),
+}
+
+impl Contents {
+    // Nothing is kept yet. It takes no memory.
+    pub(crate) fn new(alloc: Global) -> Contents
+        ensures { result.kept ≡ record {
+          subtables = [];
+          greatest = record { stables = []; tables = [] };
+          rows = [];
+          edge = 0;
+          halt = None;
+        } }
     {
         Contents {
             index: TagIndex::empty(alloc),
-            latest: Latest {
-                stables: Seq::new(alloc),
-                tables: Seq::new(alloc),
-            },
-            rows,
+            latest: Latest::new(alloc),
+            rows: RowTree::empty(alloc),
             edge: 0,
             halt: None,
         }
@@ -52,71 +72,115 @@ impl<M: RowMap> Contents<M> {
 
     // The index of the subtables.
     pub(crate) fn index(&self) -> &TagIndex
-        ensures { result.now.subtables ≡ self.now.subtables }
+        ensures { result.now.subtables ≡ self.now.kept.subtables }
     {
         &self.index
     }
 
     // The rows.
-    pub(crate) fn rows(&self) -> &M
-        ensures { M.rows result.now ≡ self.now.rows }
+    pub(crate) fn rows(&self) -> &RowTree
+        ensures { result.now ≡ self.now.kept.rows }
     {
         &self.rows
     }
 
     // The retention edge.
     pub(crate) fn edge(&self) -> u32
-        ensures { result ≡ self.now.edge }
+        ensures { result ≡ self.now.kept.edge }
     {
         self.edge
     }
 
-    // What an entry of a version makes of it, over the catalog before it, whole or not at all.
-    pub(crate) fn change(
-        &mut self,
-        catalog: &Catalog,
-        version: u64,
-        entry: &Entry,
-    ) -> Result<(), NoMem>
-        requires subtables { self.old.subtables ≡ subtables_of catalog.now.catalog }
+    // The version of the halt, if there is one.
+    pub(crate) fn halt(&self) -> Option<u64>
+        ensures { result ≡ self.now.kept.halt }
+    {
+        self.halt
+    }
+
+    // Takes the memory that an entry needs, and gives its part, over the catalog before it. What is kept stays as it is, also
+    // where there is no memory.
+    pub(crate) fn prepare(&mut self, catalog: &Catalog, entry: &Entry) -> Result<Part, NoMem>
+        requires subtables { self.old.kept.subtables ≡ subtables_of catalog.now.catalog }
         requires follows { CanFollow entry.now.what catalog.now.catalog }
-        ensures ok { OnOk result (self.new ≡ kept_after entry.now.what version entry.now.moment catalog.now.catalog self.old) }
-        ensures err { OnErr result (self.new ≡ self.old) }
+        ensures unchanged { self.new.kept ≡ self.old.kept }
+        ensures part { IfOk result (λ part. part ≡ part_of entry.now.what entry.now.moment catalog.now.catalog self.old.kept.rows) }
+        ensures room { IfOk result (λ _. HasRoomBeside entry.now.what self.new.room) }
     {
         match &entry.what {
             What::MakeStable { .. } => {
-                add(&mut self.latest.stables)?;
-                Ok(())
+                self.latest.make_stable_room()?;
+                Ok(Part::Nothing)
             }
             What::MakeTable { .. } => {
-                add(&mut self.latest.tables)?;
-                Ok(())
+                self.latest.make_table_room()?;
+                Ok(Part::Nothing)
             }
             What::MakeSub { tags, .. } => {
+                self.latest.make_table_room()?;
                 let change = self.index.prepare(catalog.tables() + 1, tags.as_slice())?;
-                add(&mut self.latest.tables)?;
-                self.index.add(change);
-                Ok(())
+                Ok(Part::Subtable(change))
             }
             What::Put(puts) => {
-                self.rows.put_all(entry.moment, puts.as_slice())?;
-                raise_all(&mut self.latest, catalog, puts.as_slice());
-                Ok(())
+                let rows = self.rows.with_puts(entry.moment, puts.as_slice())?;
+                Ok(Part::Rows(rows))
             }
             What::Cut { table, lo, hi } => {
-                self.rows.cut(*table, *lo, *hi);
-                Ok(())
+                let rows = self.rows.without(*table, *lo, *hi)?;
+                Ok(Part::Rows(rows))
             }
             What::Edge(edge) => {
-                self.rows.keep_from(u64::from(*edge) * DAY_RANGE);
-                self.edge = *edge;
-                Ok(())
+                let rows = self.rows.kept_from(u64::from(*edge) * DAY_RANGE)?;
+                Ok(Part::Rows(rows))
             }
-            What::Halt => {
-                self.halt = Some(version);
-                Ok(())
-            }
-            _ => Ok(()),
+            _ => Ok(Part::Nothing),
         }
+    }
+
+    // Puts a part in its place.
+    fn place(&mut self, part: Part)
+        requires { HasPlace part self.old }
+        ensures kept { self.new.kept ≡ placed part self.old.kept }
+        ensures stables { self.new.room.stables ≡ self.old.room.stables }
+        ensures tables { self.new.room.tables ≡ self.old.room.tables }
+    {
+        match part {
+            Part::Nothing => (),
+            Part::Subtable(change) => self.index.add(change),
+            Part::Rows(rows) => self.rows = rows,
+        }
+    }
+
+    // Notes what else an entry of a version changes, over the catalog before it.
+    fn note(&mut self, catalog: &Catalog, version: u64, what: &What)
+        requires { HasLatestRoom what.now self.old.room }
+        ensures { self.new.kept ≡ noted what.now version catalog.now.catalog self.old.kept }
+    {
+        match what {
+            What::MakeStable { .. } => self.latest.add_stable(),
+            What::MakeTable { .. } | What::MakeSub { .. } => self.latest.add_table(),
+            What::Put(puts) => self.latest.raise_all(catalog, puts.as_slice()),
+            What::Edge(edge) => self.edge = *edge,
+            What::Halt => self.halt = Some(version),
+            _ => (),
+        }
+    }
+
+    // Takes in an entry of a version, with its part, over the catalog before it. It takes no memory.
+    pub(crate) fn apply(&mut self, catalog: &Catalog, version: u64, entry: &Entry, part: Part)
+        requires subtables { self.old.kept.subtables ≡ subtables_of catalog.now.catalog }
+        requires part { part ≡ part_of entry.now.what entry.now.moment catalog.now.catalog self.old.kept.rows }
+        requires room { HasRoomBeside entry.now.what self.old.room }
+        ensures { self.new.kept ≡ kept_after entry.now.what version entry.now.moment catalog.now.catalog self.old.kept }
+    {
+        self.place(part);
+        self.note(catalog, version, &entry.what);
+    }
+
+    // Takes in a halt of a version.
+    pub(crate) fn stop(&mut self, version: u64)
+        ensures { self.new.kept ≡ record self.old.kept { halt = Some version } }
+    {
+        self.halt = Some(version);
     }
 }

@@ -1,18 +1,34 @@
 //! The greatest timestamps that were ever put.
-ghost use Rattle.std.specs.Prelude.{◌≡◌, ◌++◌, ◌∷◌, [], None, OnOk, OnErr};
+ghost use Rattle.std.specs.Prelude.{◌≡◌, ◌<◌, ◌++◌, ◌∷◌, [], None, OnOk};
 ghost use Rattle.td_model.specs.Catalog.{table_at};
 ghost use Rattle.td_model.specs.State.{later, raised, parent_of};
 ghost use Rattle.td_tables.specs.Latest.{raised_by, raised_all};
 
+use std::alloc::Global;
+use std::marker::Model;
 use td_catalog::Catalog;
-use td_layer::{Key, NoMem, Seq};
+use td_layer::{Key, NoMem};
 use td_model::Put;
 
-/// Of each supertable, and of each plain table, the greatest timestamp that was ever put there, in milliseconds.
+/// Of each supertable, and of each plain table, the greatest timestamp that was ever put there, in milliseconds. Contracts
+/// see the two lists, and the room that each has.
 #[derive(Drop)]
-pub struct Latest {
-    pub stables: Seq<Option<u64>>,
-    pub tables: Seq<Option<u64>>,
+pub(crate) struct Latest {
+    stables: Vec<Option<u64>>,
+    tables: Vec<Option<u64>>,
+}
+
+impl Model for Latest {
+    ghost use Rattle.std.specs.Prelude.{vec_len, vec_capacity, ◌-◌};
+    ghost use Rattle.td_tables.specs.Latest.{LatestHeld};
+
+    ghost Value = { LatestHeld };
+
+    ghost view = { λ s. record {
+      greatest = record { stables = s.stables.items; tables = s.tables.items };
+      stable_room = vec_capacity s.stables - vec_len s.stables;
+      table_room = vec_capacity s.tables - vec_len s.tables;
+    } };
 }
 
 // The greater of two timestamps, of which the first may be missing.
@@ -26,23 +42,14 @@ fn later(latest: Option<u64>, ts: u64) -> Option<u64>
 }
 
 // Raises the greatest timestamp of a number, from 1, if it is among them.
-fn raise(latest: &mut Seq<Option<u64>>, number: u32, ts: u64)
-    ensures { latest.new ≡ raised latest.old number ts }
+fn raise(latest: &mut Vec<Option<u64>>, number: u32, ts: u64)
+    ensures { latest.new.items ≡ raised latest.old.items number ts }
 {
     let at = number.saturating_sub(1) as usize;
     if at < latest.len() {
-        let raised = later(latest.as_slice()[at], ts);
-        latest.set(at, raised);
+        let raised = later(latest[at], ts);
+        latest[at] = raised;
     }
-}
-
-// Adds one that has no timestamp yet.
-pub(crate) fn add(latest: &mut Seq<Option<u64>>) -> Result<(), NoMem>
-    ensures ok { OnOk result (latest.new ≡ latest.old ++ None ∷ []) }
-    ensures err { OnErr result (latest.new ≡ latest.old) }
-{
-    latest.add(None)?;
-    Ok(())
 }
 
 // The number of the supertable of a table, if there is the table and it has one.
@@ -57,21 +64,67 @@ fn parent_of(catalog: &Catalog, table: u32) -> Option<u32>
     }
 }
 
-// Raises the greatest timestamp of a key's supertable, or of its plain table.
-fn raise_by(latest: &mut Latest, parent: Option<u32>, key: Key)
-    ensures { latest.new ≡ raised_by parent key latest.old }
-{
-    match parent {
-        None => raise(&mut latest.tables, key.table, key.ts),
-        Some(stable) => raise(&mut latest.stables, stable, key.ts),
+impl Latest {
+    // No supertable and no table yet. It takes no memory.
+    pub(crate) fn new(alloc: Global) -> Latest
+        ensures { result.greatest ≡ record { stables = []; tables = [] } }
+    {
+        Latest {
+            stables: Vec::new(alloc),
+            tables: Vec::new(alloc),
+        }
     }
-}
 
-// Raises the greatest timestamps by puts.
-pub(crate) fn raise_all(latest: &mut Latest, catalog: &Catalog, puts: &[Put])
-    ensures { latest.new ≡ raised_all catalog.now.catalog puts.now latest.old }
-{
-    for put in puts {
-        raise_by(latest, parent_of(catalog, put.key.table), put.key);
+    // Takes memory for a supertable more.
+    pub(crate) fn make_stable_room(&mut self) -> Result<(), NoMem>
+        ensures unchanged { self.new.greatest ≡ self.old.greatest }
+        ensures room { OnOk result (0 < self.new.stable_room) }
+    {
+        self.stables.reserve(1)?;
+        Ok(())
+    }
+
+    // Takes memory for a table more.
+    pub(crate) fn make_table_room(&mut self) -> Result<(), NoMem>
+        ensures unchanged { self.new.greatest ≡ self.old.greatest }
+        ensures room { OnOk result (0 < self.new.table_room) }
+    {
+        self.tables.reserve(1)?;
+        Ok(())
+    }
+
+    // Adds a supertable that has no timestamp yet. It takes no memory.
+    pub(crate) fn add_stable(&mut self)
+        requires { 0 < self.old.stable_room }
+        ensures { self.new.greatest ≡ record self.old.greatest { stables = self.old.greatest.stables ++ None ∷ [] } }
+    {
+        self.stables.push(None).unwrap();
+    }
+
+    // Adds a table that has no timestamp yet. It takes no memory.
+    pub(crate) fn add_table(&mut self)
+        requires { 0 < self.old.table_room }
+        ensures { self.new.greatest ≡ record self.old.greatest { tables = self.old.greatest.tables ++ None ∷ [] } }
+    {
+        self.tables.push(None).unwrap();
+    }
+
+    // Raises the greatest timestamp of a key's supertable, or of its plain table.
+    fn raise_by(&mut self, parent: Option<u32>, key: Key)
+        ensures { self.new.greatest ≡ raised_by parent key self.old.greatest }
+    {
+        match parent {
+            None => raise(&mut self.tables, key.table, key.ts),
+            Some(stable) => raise(&mut self.stables, stable, key.ts),
+        }
+    }
+
+    // Raises the greatest timestamps by puts. It takes no memory.
+    pub(crate) fn raise_all(&mut self, catalog: &Catalog, puts: &[Put])
+        ensures { self.new.greatest ≡ raised_all catalog.now.catalog puts.now self.old.greatest }
+    {
+        for put in puts {
+            self.raise_by(parent_of(catalog, put.key.table), put.key);
+        }
     }
 }

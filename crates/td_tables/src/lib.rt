@@ -1,10 +1,13 @@
-//! [run] The state that a script is played on: a catalog with its index of tags, rows by key, and a statement's turn on them.
+//! [run] The state in memory: a catalog with its index of tags, rows by key, and what an entry makes of them in two steps.
 //!
-//! It stands in until a core with a log and files keeps the state.
+//! [`Tables`] stands for a state of `td_model`. [`Tables::judge`] gives the verdict on a write, and [`Tables::plan`] that on a row
+//! query, with its plan. An entry is taken in by two steps, between which it can be written to a log: [`Tables::prepare`] takes all
+//! the memory that it needs and leaves the state as it is, and [`Tables::apply`] then takes none; the state is then the one that the
+//! entry makes of it. [`Tables::stop`] takes a halt in. [`Tables::share_rows`] gives the rows of the state, which later entries leave
+//! as they are. The state is sound at all times ([`Tables::is_sound`]).
 //!
-//! [`Tables`] stands for a state of `td_model`. [`Tables::turn`] judges a statement in it and does what it is accepted for:
-//! the reply, the journal's line and the next state are those that the verdict gives (`TurnAnswers` of `td_told`), or there
-//! was no memory, and then the state stays as it was. An entry is done whole or not at all: what can fail comes first.
+//! [`Tables::turn`] does all of a statement's turn: the reply, the journal's line and the next state are those that the verdict
+//! gives, or there was no memory, and then the state stays as it was.
 //!
 //! It stands on `td_told` for the definitions, on `td_bind` for verdicts and plans, on `td_answer` for answers, on `td_catalog`,
 //! `td_tagidx` and `td_rows` for what it keeps, and on `td_model` and `td_layer` for the types.
@@ -12,7 +15,10 @@
 
 mod contents;
 mod latest;
+mod prepared;
 mod tables;
+mod turn;
 
-pub use tables::{Tables, Turn};
-pub use td_rows::{OrderedRows, RowMap};
+pub use prepared::Prepared;
+pub use tables::Tables;
+pub use turn::Turn;

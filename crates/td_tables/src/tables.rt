@@ -1,227 +1,248 @@
-//! The state that a script is played on.
-ghost use Rattle.std.specs.Prelude.{◌≡◌, ◌<◌, ◌≤◌, ◌+◌, ◌^◌, [], ◌∷◌, IfOk, OnOk, OnErr, IsTrue, Some, None};
+//! The state in memory.
+ghost use Rattle.std.specs.Prelude.{◌≡◌, ◌<◌, ◌≤◌, ◌+◌, ◌^◌, [], ◌∷◌, IfOk, IsTrue, Some, false};
 ghost use Rattle.td_model.specs.declared.language.Query.{Query};
 ghost use Rattle.td_model.specs.Built.{is_write, is_built, is_row_query};
 ghost use Rattle.td_model.specs.State.{step, empty_state};
-ghost use Rattle.td_catalog.specs.Kept.{CanFollow};
-ghost use Rattle.td_verdict.specs.Sound.{IsFromEdge};
-ghost use Rattle.td_verdict.specs.Writes.{write_verdict};
+ghost use Rattle.td_catalog.specs.Kept.{change_of, IsReadyFor};
+ghost use Rattle.td_verdict.specs.Sound.{IsSound, IsSoundPlan, has_now};
 ghost use Rattle.td_verdict.specs.Queries.{query_verdict};
 ghost use Rattle.td_verdict.specs.Plans.{plan_of};
 ghost use Rattle.td_verdict.specs.Answers.{header, answer};
-ghost use Rattle.td_told.specs.Verdict.{verdict};
-ghost use Rattle.td_told.specs.Turn.{accepted_reply, reply_of, TurnIs, TurnAnswers};
+ghost use Rattle.td_bind.specs.Answers.{verdict_of, query_verdict_of};
+ghost use Rattle.td_told.specs.Journal.{halt_at};
+ghost use Rattle.td_told.specs.Verdict.{reads_clock, closed_cause, entry_verdict, verdict};
+ghost use Rattle.td_tables.specs.Contents.{part_of, HasRoomBeside};
+ghost use Rattle.td_tables.specs.Held.{catalog_held, CanTake, IsReady};
 
-use crate::contents::Contents;
+use crate::contents::{Contents, Part};
+use crate::prepared::Prepared;
 use std::alloc::Global;
 use std::marker::Model;
 use td_answer::answer;
 use td_bind::{bind_query, bind_write};
-use td_catalog::Catalog;
+use td_catalog::{Catalog, Change};
 use td_fields::header;
-use td_layer::{Copied, NoMem};
-use td_limits::LAST_TIMESTAMP;
-use td_model::{Cause, Entry, JournalLine, Mark, Plan, Query, Reply, Stmt, What};
-use td_rows::RowMap;
+use td_layer::{Cell, Copied, Name, NoMem, Seq};
+use td_limits::{LAST_TIMESTAMP, LAST_VERSION};
+use td_model::{Cause, Entry, Plan, Query, Stmt, What};
+use td_rows::RowTree;
 
-/// The tables and their rows, as the state that a history leaves.
+/// The state of a database in memory. Contracts see the state, and how much it takes without further memory.
+///
+/// An entry is taken in by two steps, between which it can be written to a log: [`Tables::prepare`] takes all the memory that
+/// it needs and changes nothing that is seen of the state, and [`Tables::apply`] then takes none.
 #[derive(Drop)]
-pub struct Tables<M: RowMap> {
+pub struct Tables {
     alloc: Global,
     version: u64,
     moment: u64,
     catalog: Catalog,
-    contents: Contents<M>,
+    contents: Contents,
 }
 
-impl<M: RowMap> Model for Tables<M> {
-    ghost use Rattle.td_model.specs.State.{State};
-    ghost use Rattle.td_tables.specs.Contents.{state_of, IsRight};
+impl Model for Tables {
+    ghost use Rattle.td_tables.specs.Contents.{IsRight};
+    ghost use Rattle.td_tables.specs.Held.{Held, held_of};
 
-    ghost Value = { State };
+    ghost Value = { Held };
 
-    ghost view = { λ s. state_of s.version s.moment s.catalog.catalog s.contents };
+    ghost view = { λ s. held_of s.version s.moment s.catalog s.contents };
 
-    ghost invariant = { λ s. IsRight s.version s.moment s.catalog.catalog s.contents };
+    ghost invariant = { λ s. IsRight s.version s.moment s.catalog.catalog s.contents.kept };
 }
 
-/// What a statement's turn gives: its reply, and the line of its entry, if it has one.
-#[derive(Drop)]
-pub struct Turn {
-    pub reply: Reply,
-    pub line: Option<JournalLine>,
-}
-
-fn accepted_reply(what: &What, version: u64, rows: u32) -> Reply
-    ensures { result ≡ accepted_reply what.now version rows }
-{
-    match what {
-        What::Put(_) => Reply::AcceptedRows { version, rows },
-        What::Edge(edge) => Reply::AcceptedEdge {
-            version,
-            edge: *edge,
-        },
-        _ => Reply::Accepted { version },
-    }
-}
-
-impl<M: RowMap> Tables<M> {
-    /// No table yet, and the rows that a map without rows has. It takes no memory.
-    pub fn new(alloc: Global, rows: M) -> Tables<M>
-        requires { M.rows rows ≡ [] }
-        ensures { result ≡ empty_state }
+impl Tables {
+    /// The empty state: no table, version 0. It takes no memory.
+    pub fn new(alloc: Global) -> Tables
+        ensures { result.state ≡ empty_state }
     {
         Tables {
             alloc,
             version: 0,
             moment: 0,
             catalog: Catalog::empty(alloc),
-            contents: Contents::new(alloc, rows),
+            contents: Contents::new(alloc),
         }
     }
 
-    // Takes an accepted entry in, whole or not at all.
-    fn accept(&mut self, entry: &Entry) -> Result<(), NoMem>
-        requires version { self.old.version + 1 < 2 ^ 64 }
-        requires follows { CanFollow entry.now.what self.old.catalog }
-        requires edge { IsFromEdge self.old.edge entry.now.what }
-        ensures ok { OnOk result (self.new ≡ step (self.old ∷ []) entry.now) }
-        ensures err { OnErr result (self.new ≡ self.old) }
+    /// The version of the state: that of the last entry.
+    pub fn version(&self) -> u64
+        ensures { result ≡ self.now.state.version }
     {
-        let change = self.catalog.prepare(entry)?;
-        self.contents
-            .change(&self.catalog, self.version + 1, entry)?;
-        self.catalog.apply(change);
-        self.version += 1;
-        self.moment = entry.moment;
-        Ok(())
+        self.version
     }
 
-    // What a query is answered, where it passes.
-    fn answered(&self, plan: &Plan) -> Result<Reply, NoMem>
-        ensures { (q : Query) → plan.now ≡ plan_of q self.now.catalog → IfOk result (λ r. r ≡ Reply.Answer self.now.version (header q self.now.catalog) (answer q self.now)) }
+    /// The moment of the last entry, in milliseconds since 1970.
+    pub fn moment(&self) -> u64
+        ensures { result ≡ self.now.state.moment }
     {
-        let header = header(self.alloc, plan)?;
-        let rows = answer(self.alloc, plan, self.contents.rows(), 0, u64::MAX)?;
-        Ok(Reply::Answer {
-            prefix: self.version,
-            header,
-            rows,
-        })
+        self.moment
     }
 
-    // The turn of a query.
-    fn select(&self, query: &Query) -> Result<Turn, NoMem>
-        requires { IsTrue (is_row_query query.now) }
-        ensures reply { IfOk result (λ t. t.reply ≡ reply_of (Stmt.Select query.now) (Some (query_verdict query.now self.now.catalog)) self.now) }
-        ensures line { IfOk result (λ t. t.line ≡ None) }
+    /// The retention edge, a number of day ranges.
+    pub fn edge(&self) -> u32
+        ensures { result ≡ self.now.state.edge }
     {
-        match bind_query(self.alloc, query, &self.catalog, self.contents.index())? {
-            Ok(plan) => {
-                let reply = self.answered(&plan)?;
-                Ok(Turn { reply, line: None })
-            }
-            Err(cause) => Ok(self.refused(cause)),
+        self.contents.edge()
+    }
+
+    /// The version of the halt, if there is one.
+    pub fn halt(&self) -> Option<u64>
+        ensures { result ≡ self.now.state.halt }
+    {
+        self.contents.halt()
+    }
+
+    /// The state is sound: its catalog is valid, and each row is one of a table that is there, with a value for each column,
+    /// and not before the retention edge. It does nothing.
+    pub fn is_sound(&self)
+        ensures { IsSound self.now.state }
+    {
+        let _ = &self.alloc;
+    }
+
+    // Why the state takes no write, whatever it says.
+    fn closed_cause(&self) -> Option<Cause>
+        ensures { result ≡ closed_cause self.now.state }
+    {
+        if let Some(version) = self.contents.halt() {
+            return Some(Cause::Stopped { version });
         }
+        if LAST_VERSION <= self.version {
+            return Some(Cause::TooManyVersions);
+        }
+        None
     }
 
-    // The turn of a statement that is refused.
-    fn refused(&self, cause: Cause) -> Turn
-        ensures reply { result.reply ≡ Reply.Refused self.now.version cause }
-        ensures line { result.line ≡ None }
-    {
-        let reply = Reply::Refused {
-            prefix: self.version,
-            cause,
-        };
-        Turn { reply, line: None }
-    }
-
-    // The turn of a write.
-    fn write(&mut self, session: u32, ordinal: u32, moment: u64, stmt: &Stmt) -> Result<Turn, NoMem>
-        requires version { self.old.version + 1 < 2 ^ 64 }
-        requires moment { moment ≤ LAST_TIMESTAMP }
+    // What a write that is built meets.
+    fn judge_write(&self, stmt: &Stmt, moment: u64) -> Result<Result<(What, u32), Cause>, NoMem>
         requires write { IsTrue (is_write stmt.now) }
         requires built { IsTrue (is_built stmt.now) }
-        ensures turn { IfOk result (λ t. TurnIs stmt.now (Some (write_verdict stmt.now self.old.catalog self.old.edge moment)) self.old self.new session ordinal moment t.reply t.line) }
-        ensures err { OnErr result (self.new ≡ self.old) }
+        requires moment { moment ≤ LAST_TIMESTAMP }
+        ensures verdict { IfOk result (λ answer. verdict_of answer ≡ entry_verdict stmt.now self.now.state moment) }
+        ensures takes { IfOk result (λ answer. IfOk answer (λ accepted. CanTake accepted.0 self.now.state)) }
     {
-        match bind_write(
-            self.alloc,
-            stmt,
-            &self.catalog,
-            self.contents.edge(),
-            moment,
-        )? {
-            Ok((what, rows)) => {
-                let entry = Entry {
-                    session,
-                    ordinal,
-                    moment,
-                    what,
-                };
-                self.accept(&entry)?;
-                Ok(Turn {
-                    reply: accepted_reply(&entry.what, self.version, rows),
-                    line: Some(JournalLine {
-                        version: self.version,
-                        session,
-                        ordinal,
-                        moment,
-                        mark: Mark::Plain,
-                    }),
-                })
-            }
-            Err(cause) => Ok(self.refused(cause)),
+        if let Some(cause) = self.closed_cause() {
+            return Ok(Err(cause));
         }
+        let edge = self.contents.edge();
+        let answer = bind_write(self.alloc, stmt, &self.catalog, edge, moment)?;
+        Ok(answer)
     }
 
-    // One statement's turn, or want of memory, which changes nothing. The cause of its text comes first, and then that its
-    // form isn't built. So far the forms that are built are the writes and SELECT.
-    fn judged(
-        &mut self,
-        session: u32,
-        ordinal: u32,
-        moment: u64,
-        stmt: &Stmt,
-    ) -> Result<Turn, NoMem>
-        requires version { self.old.version + 1 < 2 ^ 64 }
+    /// What a write, or a text that is no statement, meets at a moment in milliseconds since 1970: it is accepted, with what
+    /// its entry does and its count of rows, or refused with the first cause that applies. The state can take what is
+    /// accepted.
+    pub fn judge(&self, stmt: &Stmt, moment: u64) -> Result<Result<(What, u32), Cause>, NoMem>
+        requires clock { IsTrue (reads_clock stmt.now) }
         requires moment { moment ≤ LAST_TIMESTAMP }
-        ensures turn { IfOk result (λ t. TurnIs stmt.now (Some (verdict stmt.now self.old [] moment)) self.old self.new session ordinal moment t.reply t.line) }
-        ensures err { OnErr result (self.new ≡ self.old) }
+        ensures verdict { IfOk result (λ answer. verdict_of answer ≡ verdict stmt.now self.now.state [] moment) }
+        ensures takes { IfOk result (λ answer. IfOk answer (λ accepted. CanTake accepted.0 self.now.state)) }
     {
         if let Stmt::Wrong(cause) = stmt {
             let cause = cause.copy()?;
-            return Ok(self.refused(cause));
+            return Ok(Err(cause));
         }
         if !stmt.is_built() {
-            return Ok(self.refused(Cause::OptionNotBuilt));
+            return Ok(Err(Cause::OptionNotBuilt));
         }
-        match stmt {
-            Stmt::Select(query) => {
-                let turn = self.select(query)?;
-                Ok(turn)
-            }
-            _ => {
-                let turn = self.write(session, ordinal, moment, stmt)?;
-                Ok(turn)
-            }
-        }
+        let answer = self.judge_write(stmt, moment)?;
+        Ok(answer)
     }
 
-    /// One statement's turn at a moment in milliseconds since 1970: what the verdict gives, or the reply that there was no
-    /// memory, which changes nothing.
-    pub fn turn(&mut self, session: u32, ordinal: u32, moment: u64, stmt: &Stmt) -> Turn
-        requires version { self.old.version + 1 < 2 ^ 64 }
-        requires moment { moment ≤ LAST_TIMESTAMP }
-        ensures { TurnAnswers stmt.now self.old self.new session ordinal moment result.reply result.line }
+    // Takes the memory that an entry needs.
+    fn make_room(&mut self, entry: &Entry) -> Result<(Change, Part), NoMem>
+        requires { CanTake entry.now.what self.old.state }
+        ensures state { self.new.state ≡ self.old.state }
+        ensures change { IfOk result (λ made. made.0 ≡ change_of entry.now.what) }
+        ensures ready { IfOk result (λ made. IsReadyFor made.0 (catalog_held self.new)) }
+        ensures part { IfOk result (λ made. made.1 ≡ part_of entry.now.what entry.now.moment self.new.state.catalog self.new.state.rows) }
+        ensures room { IfOk result (λ _. HasRoomBeside entry.now.what self.new.beside) }
     {
-        match self.judged(session, ordinal, moment, stmt) {
-            Ok(turn) => turn,
-            Err(NoMem) => Turn {
-                reply: Reply::NoMemory,
-                line: None,
-            },
-        }
+        let change = self.catalog.prepare(entry)?;
+        let part = self.contents.prepare(&self.catalog, entry)?;
+        Ok((change, part))
+    }
+
+    /// Takes the memory that an entry needs, and gives what [`Tables::apply`] can then take in without memory. The state stays
+    /// as it is, also where there is no memory.
+    pub fn prepare(&mut self, entry: Entry) -> Result<Prepared, NoMem>
+        requires { CanTake entry.what self.old.state }
+        ensures state { self.new.state ≡ self.old.state }
+        ensures entry { IfOk result (λ prepared. prepared.entry ≡ entry) }
+        ensures ready { IfOk result (λ prepared. IsReady prepared self.new) }
+    {
+        let (change, part) = self.make_room(&entry)?;
+        Ok(Prepared {
+            entry,
+            change,
+            part,
+        })
+    }
+
+    /// Takes in an entry that is prepared: the state is then the one that the entry makes of it. It takes no memory.
+    pub fn apply(&mut self, prepared: Prepared)
+        requires { IsReady prepared self.old }
+        ensures { self.new.state ≡ step (self.old.state ∷ []) prepared.entry }
+    {
+        let Prepared {
+            entry,
+            change,
+            part,
+        } = prepared;
+        self.contents
+            .apply(&self.catalog, self.version + 1, &entry, part);
+        self.catalog.apply(change);
+        self.version += 1;
+        self.moment = entry.moment;
+    }
+
+    /// Takes in a halt, which is of no session, at a moment in milliseconds since 1970: from then on no write is accepted. It
+    /// takes no memory.
+    pub fn stop(&mut self, moment: u64)
+        requires { self.old.state.version < LAST_VERSION }
+        ensures { self.new.state ≡ step (self.old.state ∷ []) (halt_at moment) }
+    {
+        self.version += 1;
+        self.moment = moment;
+        self.contents.stop(self.version);
+    }
+
+    /// What a row query meets: it passes with its plan, or is refused with the first cause that applies. The plan of a query
+    /// without NOW is sound.
+    pub fn plan(&self, query: &Query) -> Result<Result<Plan, Cause>, NoMem>
+        requires { IsTrue (is_row_query query.now) }
+        ensures verdict { IfOk result (λ answer. query_verdict_of answer ≡ query_verdict query.now self.now.state.catalog) }
+        ensures plan { IfOk result (λ answer. IfOk answer (λ plan. plan ≡ plan_of query.now self.now.state.catalog)) }
+        ensures sound { has_now query.now ≡ false → IfOk result (λ answer. IfOk answer IsSoundPlan) }
+    {
+        let answer = bind_query(self.alloc, query, &self.catalog, self.contents.index())?;
+        Ok(answer)
+    }
+
+    /// The header of the answer of a plan.
+    pub fn header(&self, plan: &Plan) -> Result<Seq<Name>, NoMem>
+        ensures { (q : Query) → plan.now ≡ plan_of q self.now.state.catalog
+            → IfOk result (λ names. names ≡ header q self.now.state.catalog) }
+    {
+        let names = header(self.alloc, plan)?;
+        Ok(names)
+    }
+
+    /// The whole answer of a plan.
+    pub fn answer(&self, plan: &Plan) -> Result<Seq<Seq<Cell>>, NoMem>
+        ensures { (q : Query) → plan.now ≡ plan_of q self.now.state.catalog
+            → IfOk result (λ rows. rows ≡ answer q self.now.state) }
+    {
+        let rows = answer(self.alloc, plan, self.contents.rows(), 0, u64::MAX)?;
+        Ok(rows)
+    }
+
+    /// The rows of the state, of the same nodes, which later entries leave as they are.
+    pub fn share_rows(&self) -> Result<RowTree, NoMem>
+        ensures { IfOk result (λ rows. rows ≡ self.now.state.rows) }
+    {
+        let rows = self.contents.rows().share()?;
+        Ok(rows)
     }
 }

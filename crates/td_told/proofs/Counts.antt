@@ -68,17 +68,24 @@ rising_weaker n m (j ∷ js) l r = (omega (arith, l, r.0), r.1)
 
 -- the ordinals of a session's lines rise above the count of its statements before
 abbrev pub RisesAfter : List Asked → List JournalLine → Type 0
-RisesAfter front js = (session : ℕ) → Rising (count_of session front) (lines_of session js)
+RisesAfter front js = (session : ℕ) → 0 < session → Rising (count_of session front) (lines_of session js)
 
 pub rises_without : (front : List Asked) (a : Asked) (js : List JournalLine) → RisesAfter (front ++ a ∷ []) js → RisesAfter front js
-rises_without front a js later session = rising_weaker (count_of session front) (count_of session (front ++ a ∷ [])) (lines_of session js) (grows session front a).most (later session)
+rises_without front a js later session some = rising_weaker (count_of session front) (count_of session (front ++ a ∷ [])) (lines_of session js) (grows session front a).most (later session some)
+
+-- a line of no session rises nowhere
+pub rises_beside : (front : List Asked) (a : Asked) (j : JournalLine) (js : List JournalLine) → j.session ≡ 0 → RisesAfter (front ++ a ∷ []) js → RisesAfter front (j ∷ js)
+rises_beside front a j js none later session some = elim (eqb_tells j.session session) [
+  | inl h ↦ absurd (omega (arith, none, h.1, some))
+  | inr h ↦ rw h.0 (rises_without front a js later session some)
+]
 
 pub rises_with : (front : List Asked) (a : Asked) (j : JournalLine) (js : List JournalLine) → a.ordinal ≡ count_of a.session front + 1 → j.session ≡ a.session → j.ordinal ≡ a.ordinal → RisesAfter (front ++ a ∷ []) js → RisesAfter front (j ∷ js)
-rises_with front a j js e s o later session = elim (eqb_tells j.session session) [
+rises_with front a j js e s o later session some = elim (eqb_tells j.session session) [
   | inl h ↦
       let same : a.session ≡ session = sym s ∙ h.1 in
       let c : count_of a.session front ≡ count_of session front = ap (λ x. count_of x front) same in
       let own = (grows session front a).own same in
-      rw h.0 (omega (arith, e, c, o), rising_weaker j.ordinal (count_of session (front ++ a ∷ [])) (lines_of session js) (omega (arith, own, e, c, o)) (later session))
-  | inr h ↦ rw h.0 (rises_without front a js later session)
+      rw h.0 (omega (arith, e, c, o), rising_weaker j.ordinal (count_of session (front ++ a ∷ [])) (lines_of session js) (omega (arith, own, e, c, o)) (later session some))
+  | inr h ↦ rw h.0 (rises_without front a js later session some)
 ]

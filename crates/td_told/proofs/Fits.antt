@@ -1,8 +1,8 @@
 -- Which verdicts a statement may have.
 use Rattle.std.proofs.Common.{◌≡◌, ℕ, ◌+◌, ℤ, pos, Bool, true, false, cond, List, [], ◌∷◌, length, map, Option, Some, None, refl, ap}
-use Rattle.std.specs.Prelude.{int_lt}
+use Rattle.std.specs.Prelude.{int_lt, nat_le}
 use Rattle.std.specs.Int.{int_min, int_max}
-use Rattle.td_limits.specs.declared.limits.TheConstants.{LAST_TIMESTAMP}
+use Rattle.td_limits.specs.declared.limits.TheConstants.{LAST_TIMESTAMP, LAST_VERSION}
 use Rattle.td_model.specs.declared.catalog.Column.{Column}
 use Rattle.td_model.specs.declared.language.Lit.{Lit}
 use Rattle.td_model.specs.declared.language.Stmt.{Stmt}
@@ -12,22 +12,21 @@ use Rattle.td_model.specs.declared.history.What.TheVariants as what
 use Rattle.td_model.specs.declared.history.Verdict.{Verdict}
 use Rattle.td_model.specs.declared.history.Verdict.TheVariants.{Accept, Pass, Refuse}
 use Rattle.td_model.specs.declared.report.Cause.{Cause}
-use Rattle.td_model.specs.declared.report.Cause.TheVariants.{OptionNotBuilt}
-use Rattle.td_model.specs.Built.{is_built}
+use Rattle.td_model.specs.declared.report.Cause.TheVariants.{OptionNotBuilt, TooManyVersions}
+use Rattle.td_model.specs.Built.{is_built, is_write}
 use Rattle.td_model.specs.Catalog.{Catalog, table_named}
 use Rattle.td_model.specs.declared.history.Entry.{Entry}
 use Rattle.td_model.specs.State.{State, effect, step}
-use Rattle.td_limits.specs.declared.limits.TheConstants.{LAST_TIMESTAMP}
-use Rattle.td_verdict.specs.Causes.{first_cause, accepted_or}
+use Rattle.td_verdict.specs.Causes.{when, first_cause, accepted_or}
 use Rattle.td_verdict.specs.Names.{number_or_none, table_schema}
 use Rattle.td_verdict.specs.Queries.{query_cause, passes_or, query_verdict}
 use Rattle.td_verdict.specs.Writes as writes
-use Rattle.td_verdict.specs.Writes.{refused_or, cut_between, time_from}
-use Rattle.td_told.specs.Verdict.{verdict, reads_clock}
+use Rattle.td_verdict.specs.Writes.{refused_or, cut_between, time_from, write_verdict}
+use Rattle.td_told.specs.Verdict.{verdict, reads_clock, halt_cause, closed_cause, entry_verdict}
 use Rattle.td_told.specs.Replies.{is_other_write, is_insert, is_trim, is_query}
 use Rattle.td_told.specs.Numbers.{answer_number, of_state}
 use Rattle.td_told.specs.Times.{is_halt}
-use Rattle.td_told.specs.Turn.{clock_reads}
+use Rattle.td_told.specs.Turn.{clock_reads, Accepts}
 
 -- what a statement of its kind may do
 abbrev pub Suits : Stmt → What → Type 0
@@ -80,16 +79,20 @@ built_fits : (q : Stmt) (built : Bool) (v : Verdict) → Fits q v → Fits q (co
 built_fits q true v fits = fits
 built_fits q false v fits = tt
 
+-- a write that is built, in a state that may be closed to writes
+open_fits : (q : Stmt) (s : State) (m : ℕ) → Fits q (write_verdict q s.catalog s.edge m) → Fits q (entry_verdict q s m)
+open_fits q s m fits = refused_fits q (closed_cause s) (write_verdict q s.catalog s.edge m) fits
+
 pub fits : (q : Stmt) (s : State) (cursors : List (List ℕ)) (m : ℕ) → Fits q (verdict q s cursors m)
 fits (stmt.Wrong cause) s cursors m = tt
-fits (stmt.MakeStable name columns tags) s cursors m = stable_fits (stmt.MakeStable name columns tags) name columns tags s refl refl
-fits (stmt.MakeTable name columns) s cursors m = accepted_fits (stmt.MakeTable name columns) _ _ 0 refl refl
-fits (stmt.MakeSub name stable tags) s cursors m = accepted_fits (stmt.MakeSub name stable tags) _ _ 0 refl refl
-fits (stmt.Insert table columns rows) s cursors m = insert_fits (stmt.Insert table columns rows) table (table_schema (table_named table s.catalog) s.catalog).columns columns rows s.edge m s.catalog refl refl
-fits (stmt.Delete table column lo hi) s cursors m = delete_fits (stmt.Delete table column lo hi) table (table_schema (table_named table s.catalog) s.catalog).columns column lo hi m s.catalog refl refl
+fits (stmt.MakeStable name columns tags) s cursors m = open_fits (stmt.MakeStable name columns tags) s m (stable_fits (stmt.MakeStable name columns tags) name columns tags s refl refl)
+fits (stmt.MakeTable name columns) s cursors m = open_fits (stmt.MakeTable name columns) s m (accepted_fits (stmt.MakeTable name columns) _ _ 0 refl refl)
+fits (stmt.MakeSub name stable tags) s cursors m = open_fits (stmt.MakeSub name stable tags) s m (accepted_fits (stmt.MakeSub name stable tags) _ _ 0 refl refl)
+fits (stmt.Insert table columns rows) s cursors m = open_fits (stmt.Insert table columns rows) s m (insert_fits (stmt.Insert table columns rows) table (table_schema (table_named table s.catalog) s.catalog).columns columns rows s.edge m s.catalog refl refl)
+fits (stmt.Delete table column lo hi) s cursors m = open_fits (stmt.Delete table column lo hi) s m (delete_fits (stmt.Delete table column lo hi) table (table_schema (table_named table s.catalog) s.catalog).columns column lo hi m s.catalog refl refl)
 fits (stmt.MakeStream def) s cursors m = tt
-fits (stmt.DropStream name) s cursors m = accepted_fits (stmt.DropStream name) _ _ 0 refl refl
-fits stmt.Trim s cursors m = (refl, refl)
+fits (stmt.DropStream name) s cursors m = open_fits (stmt.DropStream name) s m (accepted_fits (stmt.DropStream name) _ _ 0 refl refl)
+fits stmt.Trim s cursors m = open_fits stmt.Trim s m (refl, refl)
 fits (stmt.Select q) s cursors m = built_fits (stmt.Select q) (is_built (stmt.Select q)) (query_verdict q s.catalog) (passes_fit (stmt.Select q) (query_cause q s.catalog) refl)
 fits (stmt.OpenCursor cursor query) s cursors m = tt
 fits (stmt.Fetch cursor rows) s cursors m = tt
@@ -99,9 +102,73 @@ fits stmt.Merge s cursors m = tt
 fits stmt.Sweep s cursors m = tt
 fits (stmt.Step stream) s cursors m = tt
 
+-- no query is accepted
+select_none : (b : Bool) (why : Option Cause) → Accepts (cond b (passes_or why) (Refuse OptionNotBuilt)) → ⊥
+select_none true None h = h
+select_none true (Some cause) h = h
+select_none false why h = h
+
+-- what is accepted is a write
+pub accepted_writes : (q : Stmt) (s : State) (cursors : List (List ℕ)) (m : ℕ) → Accepts (verdict q s cursors m) → is_write q ≡ true
+accepted_writes (stmt.Wrong cause) s cursors m h = absurd h
+accepted_writes (stmt.MakeStable name columns tags) s cursors m h = refl
+accepted_writes (stmt.MakeTable name columns) s cursors m h = refl
+accepted_writes (stmt.MakeSub name stable tags) s cursors m h = refl
+accepted_writes (stmt.Insert table columns rows) s cursors m h = refl
+accepted_writes (stmt.Delete table column lo hi) s cursors m h = refl
+accepted_writes (stmt.MakeStream def) s cursors m h = refl
+accepted_writes (stmt.DropStream name) s cursors m h = refl
+accepted_writes stmt.Trim s cursors m h = refl
+accepted_writes (stmt.Select q) s cursors m h = absurd (select_none (is_built (stmt.Select q)) (query_cause q s.catalog) h)
+accepted_writes (stmt.OpenCursor cursor query) s cursors m h = absurd h
+accepted_writes (stmt.Fetch cursor rows) s cursors m h = absurd h
+accepted_writes (stmt.CloseCursor cursor) s cursors m h = absurd h
+accepted_writes stmt.Commit s cursors m h = absurd h
+accepted_writes stmt.Merge s cursors m h = absurd h
+accepted_writes stmt.Sweep s cursors m h = absurd h
+accepted_writes (stmt.Step stream) s cursors m h = absurd h
+
+-- after a halt no write is accepted
+closed_none : (halt : Option ℕ) (late : Option Cause) (v : Verdict) (n : ℕ) → halt ≡ Some n → Accepts (refused_or (first_cause (halt_cause halt ∷ late ∷ [])) v) → ⊥
+closed_none None late v n e h = cc
+closed_none (Some version) late v n e h = h
+
+closed_write : (q : Stmt) (s : State) (n m : ℕ) → s.halt ≡ Some n → Accepts (entry_verdict q s m) → ⊥
+closed_write q s n m e h = closed_none s.halt (when (nat_le LAST_VERSION s.version) TooManyVersions) (write_verdict q s.catalog s.edge m) n e h
+
+pub accepts_none : (q : Stmt) (s : State) (n m : ℕ) → s.halt ≡ Some n → Accepts (verdict q s [] m) → ⊥
+accepts_none (stmt.Wrong cause) s n m e h = h
+accepts_none (stmt.MakeStable name columns tags) s n m e h = closed_write (stmt.MakeStable name columns tags) s n m e h
+accepts_none (stmt.MakeTable name columns) s n m e h = closed_write (stmt.MakeTable name columns) s n m e h
+accepts_none (stmt.MakeSub name stable tags) s n m e h = closed_write (stmt.MakeSub name stable tags) s n m e h
+accepts_none (stmt.Insert table columns rows) s n m e h = closed_write (stmt.Insert table columns rows) s n m e h
+accepts_none (stmt.Delete table column lo hi) s n m e h = closed_write (stmt.Delete table column lo hi) s n m e h
+accepts_none (stmt.MakeStream def) s n m e h = h
+accepts_none (stmt.DropStream name) s n m e h = closed_write (stmt.DropStream name) s n m e h
+accepts_none stmt.Trim s n m e h = closed_write stmt.Trim s n m e h
+accepts_none (stmt.Select q) s n m e h = select_none (is_built (stmt.Select q)) (query_cause q s.catalog) h
+accepts_none (stmt.OpenCursor cursor query) s n m e h = h
+accepts_none (stmt.Fetch cursor rows) s n m e h = h
+accepts_none (stmt.CloseCursor cursor) s n m e h = h
+accepts_none stmt.Commit s n m e h = h
+accepts_none stmt.Merge s n m e h = h
+accepts_none stmt.Sweep s n m e h = h
+accepts_none (stmt.Step stream) s n m e h = h
+
+-- what a verdict that accepts accepts
+pub accepts_what : (v : Verdict) → Accepts v → (w : What) × (rows : ℕ) × (v ≡ Accept w rows)
+accepts_what (Accept w rows) h = (w, rows, refl)
+accepts_what Pass h = absurd h
+accepts_what (Refuse cause) h = absurd h
+
 -- a statement that is accepted reads the clock
 pub reads_one : (q : Stmt) (w : What) (rows : ℕ) → Fits q (Accept w rows) → clock_reads q ≡ 1
 reads_one q w rows f = ap (λ b. cond b 1 0) f.1
+
+pub accepts_reads : (q : Stmt) (v : Verdict) → Fits q v → Accepts v → clock_reads q ≡ 1
+accepts_reads q (Accept w rows) f h = reads_one q w rows f
+accepts_reads q Pass f h = absurd h
+accepts_reads q (Refuse cause) f h = absurd h
 
 -- what a statement does looks at no state but the one that it is given
 looks_at_none : (q : Stmt) (w : What) (s : State) (past past' : List State) → Suits q w → effect past w s ≡ effect past' w s

@@ -1,6 +1,6 @@
+pub mod Fits
 pub mod Plays
 pub mod Orders
 pub mod Counts
-pub mod Fits
 pub mod Tells
 pub mod Worked

@@ -1,6 +1,6 @@
 -- Replies that have the fronts of their lines for numbers: their numbers don't fall, along a session and between phases.
 use Rattle.std.proofs.Common.{ℕ, ◌≤◌, ◌==◌, max, Bool, true, false, cond, List, [], ◌∷◌, map, filter, arith}
-use Rattle.td_told.specs.Numbers.{Replied, Number, of_entry, of_state, unnumbered, number, numbers_of, Follows, number_or, NeverFalling, PhasesFollow, IsFront, front_after, AreFronts}
+use Rattle.td_told.specs.Numbers.{Replied, Number, of_entry, of_halt, of_state, unnumbered, number, numbers_of, Follows, number_or, NeverFalling, PhasesFollow, IsFront, front_after, AreFronts}
 
 -- a number that is the front, beside a number that isn't above the front
 record Keeps (front seen : ℕ) (n : Number) : Type 0 where
@@ -10,6 +10,7 @@ record Keeps (front seen : ℕ) (n : Number) : Type 0 where
 
 keeps : (front seen : ℕ) (n : Number) → seen ≤ front → IsFront front n → Keeps front seen n
 keeps front seen (of_entry v) l is = record { follows = omega arith; most = omega arith; rises = omega arith }
+keeps front seen (of_halt v) l is = record { follows = omega arith; most = omega arith; rises = omega arith }
 keeps front seen (of_state p) l is = record { follows = omega arith; most = omega arith; rises = omega arith }
 keeps front seen unnumbered l is = record { follows = tt; most = l; rises = omega arith }
 

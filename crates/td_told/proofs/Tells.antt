@@ -1,5 +1,5 @@
 -- A run of turns is told by its replies and its journal.
-use Rattle.std.proofs.Common.{◌≡◌, ℕ, zero, suc, ◌+◌, ◌-◌, ◌≤◌, not, cond, List, [], ◌∷◌, ◌++◌, map, length, take, Option, Some, None, slice_get, true, refl, sym, ap, ◌∙◌, subst, arith}
+use Rattle.std.proofs.Common.{◌≡◌, ℕ, zero, suc, ◌+◌, ◌-◌, ◌≤◌, true, false, not, cond, List, [], ◌∷◌, ◌++◌, map, filter, length, take, Option, Some, None, slice_get, refl, sym, ap, ◌∙◌, subst, arith}
 use Rattle.std.specs.List.{Contains}
 use Rattle.std.proofs.lemmas.List.{append_assoc, length-append, take_at}
 use Rattle.td_limits.specs.declared.limits.TheConstants.{LAST_TIMESTAMP}
@@ -9,22 +9,24 @@ use Rattle.td_model.specs.declared.history.What.TheVariants as what
 use Rattle.td_model.specs.declared.history.Entry.{Entry}
 use Rattle.td_model.specs.declared.history.Verdict.{Verdict}
 use Rattle.td_model.specs.declared.history.Verdict.TheVariants.{Accept, Pass, Refuse}
+use Rattle.td_model.specs.declared.report.Mark.TheVariants as mark
 use Rattle.td_model.specs.declared.report.Reply.{Reply}
+use Rattle.td_model.specs.declared.report.Reply.TheVariants as reply
 use Rattle.td_model.specs.declared.report.JournalLine.{JournalLine}
 use Rattle.td_model.specs.State.{State, step, newest, trail, after, at}
 use Rattle.td_model.proofs.Steps.{step_version}
 use Rattle.td_told.specs.Asked.{Asked, count_of, Counted}
-use Rattle.td_told.specs.Times.{Timed, without_halts}
+use Rattle.td_told.specs.Times.{Timed, without_halts, is_halt}
 use Rattle.td_told.specs.Verdict.{verdict, answer, header}
-use Rattle.td_told.specs.Numbers.{Replied, Number, of_entry, of_state, unnumbered, number, number_of, IsFront, front_after, AreFronts}
-use Rattle.td_told.specs.Journal.{RunsOn, IsHistory, entry_of, version_of, IsAccepted, AreAccepted, listed, with_version, accepted, halts_of, halts_named, with_halt}
-use Rattle.td_told.specs.Replies.{Entered, JudgedAt, IsPrefix, Answers, EachAnswers, reply_line, is_query}
+use Rattle.td_told.specs.Numbers.{Replied, Number, of_entry, of_halt, of_state, unnumbered, number, number_of, IsFront, front_after, AreFronts}
+use Rattle.td_told.specs.Journal.{RunsOn, IsHistory, StandsFor, halt_at, entry_of, version_of, IsAccepted, AreAccepted, listed, with_version, accepted, is_halt_mark, halts_of, halts_named, with_halt}
+use Rattle.td_told.specs.Replies.{Entered, Halted, JudgedAt, IsPrefix, Answers, EachAnswers, reply_line, is_query}
 use Rattle.td_told.specs.Told.{ToldInOrder}
-use Rattle.td_told.specs.Turn.{clock_reads, reply_of, accepted_reply, state_then, line_then, as_list, line_at, entry_at, Judged}
-use Rattle.td_told.proofs.Plays.{Plays, MayBe, asked_of}
+use Rattle.td_told.specs.Turn.{by_verdict, starved, halted, clock_reads, reply_of, accepted_reply, state_then, line_then, as_list, line_at, halt_line, entry_at, Judged, Accepts}
+use Rattle.td_told.proofs.Plays.{Plays, MayBe, asked_of, none_listed}
 use Rattle.td_told.proofs.Orders.{session_numbers, phase_numbers}
-use Rattle.td_told.proofs.Counts.{Unseen, unseen_more, statement_here, RisesAfter, rises_with, rises_without}
-use Rattle.td_told.proofs.Fits.{Suits, Fits, fits, reads_one, no_halt, step_alone, answer_numbered}
+use Rattle.td_told.proofs.Counts.{Unseen, unseen_more, statement_here, RisesAfter, rises_with, rises_without, rises_beside}
+use Rattle.td_told.proofs.Fits.{Suits, Fits, fits, reads_one, accepts_reads, accepts_what, accepted_writes, no_halt, step_alone, answer_numbered}
 
 trail_push : (past : List State) (h : List Entry) (e : Entry) → trail past (h ++ e ∷ []) ≡ step (trail past h) e ∷ trail past h
 trail_push past [] e = refl
@@ -72,6 +74,21 @@ module _ (b s : State) (older : List State) (h0 : List Entry) (j0 : List Journal
         accepted = ap (λ p. verdict a.stmt (at b (h0 ++ h) p) [] m) before ∙ ap (λ x. verdict a.stmt x [] m) (at_here h) ∙ e;
       }
 
+  halted_here : (a : Asked) (m : ℕ) (h : List Entry) (rest : List JournalLine) → Accepts (verdict a.stmt s [] m) → Halted b (h0 ++ h) (j0 ++ halt_line (s.version + 1) m ∷ rest) a (s.version + 1)
+  halted_here a m h rest accepts =
+      let before : s.version + 1 - 1 ≡ s.version = omega arith in
+      let found = accepts_what (verdict a.stmt s [] m) accepts in
+      record {
+        line = halt_line (s.version + 1) m;
+        after_base = omega (arith, begins.version);
+        listed = slice_get_at j0 _ rest _ (omega (arith, begins.version, begins.lines));
+        version_is = refl;
+        mark_is = refl;
+        what = found.0;
+        rows = found.1;
+        accepted = ap (λ p. verdict a.stmt (at b (h0 ++ h) p) [] m) before ∙ ap (λ x. verdict a.stmt x [] m) (at_here h) ∙ found.2;
+      }
+
   accepted_here : (a : Asked) (w : What) (rows : ℕ) (h : List Entry) (js : List JournalLine) → Suits a.stmt w → Entered b h js a (s.version + 1) w rows → Answers b h js [] a (accepted_reply w (s.version + 1) rows)
   accepted_here a (what.Put puts) rows h js suits entered = (suits, what.Put puts, entered)
   accepted_here a (what.Edge edge) rows h js suits entered = (suits, rows, entered)
@@ -91,6 +108,13 @@ module _ (b s : State) (older : List State) (h0 : List Entry) (j0 : List Journal
     lines = omega (arith, begins.lines, length-append h0 (entry_at session n m w ∷ []), length-append j0 (line_at (s.version + 1) session n m ∷ []));
   }
 
+  begins_halted : (m : ℕ) → Begins b (step (s ∷ []) (halt_at m)) (s ∷ older) (h0 ++ halt_at m ∷ []) (j0 ++ halt_line (s.version + 1) m ∷ [])
+  begins_halted m = record {
+    states = ap (λ x. step x (halt_at m) ∷ x) begins.states ∙ sym (trail_push (b ∷ []) h0 (halt_at m));
+    version = step_version (s ∷ []) (halt_at m) ∙ omega (arith, begins.version, length-append h0 (halt_at m ∷ []));
+    lines = omega (arith, begins.lines, length-append h0 (halt_at m ∷ []), length-append j0 (halt_line (s.version + 1) m ∷ []));
+  }
+
 -- each entry's moment has P at a count of readings as far on as the entry
 abbrev pub Moments : (ℕ → ℕ → Type 0) → ℕ → List Entry → Type 0
 Moments P n h = (k : ℕ) (e : Entry) → slice_get h k ≡ Some e → (i : ℕ) × (n + k ≤ i) × P i e.moment
@@ -102,16 +126,38 @@ moments_more : (P : ℕ → ℕ → Type 0) (n : ℕ) (x : Entry) (h : List Entr
 moments_more P n x h ok later zero e is = let same : x ≡ e = cc in (n, omega arith, subst (λ (y : Entry). P n y.moment) same ok)
 moments_more P n x h ok later (suc k) e is = let found = later k e is in (found.0, omega (arith, found.1), found.2)
 
--- a history without halts, with one entry more before it
-no_halt_more : (q : Stmt) (x : Entry) (h : List Entry) → Suits q x.what → without_halts h ≡ h → without_halts (x ∷ h) ≡ x ∷ h
-no_halt_more q x h suits none = ap (λ b. cond (not b) (x ∷ without_halts h) (without_halts h)) (no_halt q x.what suits) ∙ ap (λ y. x ∷ y) none
+-- the entries that aren't halts are the first ones
+abbrev pub HaltsLast : List Entry → Type 0
+HaltsLast h = (k : ℕ) (e : Entry) → slice_get (without_halts h) k ≡ Some e → slice_get h k ≡ Some e
+
+-- with one entry more before them, that isn't a halt
+last_more : (x : Entry) (h : List Entry) → is_halt x.what ≡ false → HaltsLast h → HaltsLast (x ∷ h)
+last_more x h none later k e is = last_at k (subst (λ b. slice_get (cond (not b) (x ∷ without_halts h) (without_halts h)) k ≡ Some e) none is) where
+  last_at : (k : ℕ) → slice_get (x ∷ without_halts h) k ≡ Some e → slice_get (x ∷ h) k ≡ Some e
+  last_at zero is = is
+  last_at (suc k) is = later k e is
+
+-- no line stands for no entry
+no_entries : (past : List State) (script : List Asked) (h : List Entry) → IsHistory past script [] h → h ≡ []
+no_entries past script [] history = refl
+no_entries past script (e ∷ h) history = absurd history
+
+-- a history has at most one halt, its last entry
+few_halts : (past : List State) (script : List Asked) (js : List JournalLine) (h : List Entry) → IsHistory past script js h → length (halts_of js) ≤ 1
+few_halts past script [] h history = omega arith
+few_halts past script (j ∷ js) [] history = absurd history
+few_halts past script (j ∷ js) (e ∷ h) history = elim j.mark as (λ k. StandsFor (newest past) script j k js e → length (map (λ (x : JournalLine). x.version) (cond (is_halt_mark k) (j ∷ filter (λ (x : JournalLine). is_halt_mark x.mark) js) (filter (λ (x : JournalLine). is_halt_mark x.mark) js))) ≤ 1) [
+  | mark.Plain ↦ λ stands. few_halts (step past e ∷ past) script js h history.2
+  | mark.Halt ↦ λ stands. subst (λ (x : List JournalLine). length (j.version ∷ halts_of x) ≤ 1) (sym stands.3) (omega arith)
+  | mark.Step stream upto moment ↦ λ stands. absurd stands
+] history.1
 
 -- The rest of a run, told from where it begins.
 record Outcome (P : ℕ → ℕ → Type 0) (b : State) (front : List Asked) (ps : List Replied) (h0 : List Entry) (j0 : List JournalLine) (s : State) (older : List State) (c : ℕ) (js : List JournalLine) : Type 0 where
   entries : List Entry
   history : IsHistory (s ∷ older) (front ++ asked_of ps) js entries
   moments : Moments P (c + 1) entries
-  no_halts : without_halts entries ≡ entries
+  halts_last : HaltsLast entries
   answers : EachAnswers b (h0 ++ entries) (j0 ++ js) [] ps
 
 module _ (P : ℕ → ℕ → Type 0) (b s : State) (older : List State) (front : List Asked) (p : Replied) (ps : List Replied) (h0 : List Entry) (j0 : List JournalLine) (c m : ℕ) (js rest : List JournalLine) (begins : Begins b s older h0 j0) where
@@ -122,7 +168,7 @@ module _ (P : ℕ → ℕ → Type 0) (b s : State) (older : List State) (front 
         entries = later.entries;
         history = subst (λ x. IsHistory (s ∷ older) x rest later.entries) (append_assoc front (p.asked ∷ []) (asked_of ps)) later.history;
         moments = moments_later P (c + 1) (c + clock_reads p.asked.stmt + 1) later.entries (omega arith) later.moments;
-        no_halts = later.no_halts;
+        halts_last = later.halts_last;
         answers = (answers later.entries, later.answers);
       } in
       subst (λ y. Outcome P b front (p ∷ ps) h0 j0 s older c y) (sym lines) told
@@ -146,8 +192,29 @@ module _ (P : ℕ → ℕ → Type 0) (b s : State) (older : List State) (front 
         entries = entry ∷ h;
         history = (ok.0, named, history);
         moments = moments_more P (c + 1) entry h (subst (λ x. P x m) one ok.2) (subst (λ x. Moments P (x + 1) h) one later.moments);
-        no_halts = no_halt_more a.stmt entry h fit.0 later.no_halts;
+        halts_last = last_more entry h (no_halt a.stmt w fit.0) later.halts_last;
         answers = (subst (Answers b (h0 ++ entry ∷ h) (j0 ++ line ∷ rest) [] a) (sym reply) answers, each');
+      } in
+      subst (λ y. Outcome P b front (p ∷ ps) h0 j0 s older c y) (sym lines) told
+
+  -- a turn that halts: nothing is listed after it
+  stopped : Accepts (verdict p.asked.stmt s [] m) → Fits p.asked.stmt (verdict p.asked.stmt s [] m) → MayBe P s (c + clock_reads p.asked.stmt) m → p.reply ≡ reply.StoreFaultHalt (s.version + 1) → js ≡ halt_line (s.version + 1) m ∷ rest → rest ≡ []
+      → Outcome P b (front ++ p.asked ∷ []) ps (h0 ++ halt_at m ∷ []) (j0 ++ halt_line (s.version + 1) m ∷ []) (step (s ∷ []) (halt_at m)) (s ∷ older) (c + clock_reads p.asked.stmt) rest → Outcome P b front (p ∷ ps) h0 j0 s older c js
+  stopped accepts fit ok is_reply lines none later =
+      let a = p.asked in
+      let h = later.entries in
+      let line = halt_line (s.version + 1) m in
+      let history = subst (λ x. IsHistory (step (s ∷ older) (halt_at m) ∷ s ∷ older) x rest h) (append_assoc front (a ∷ []) (asked_of ps)) later.history in
+      let no_more : h ≡ [] = no_entries (step (s ∷ older) (halt_at m) ∷ s ∷ older) (front ++ a ∷ asked_of ps) h (subst (λ x. IsHistory (step (s ∷ older) (halt_at m) ∷ s ∷ older) (front ++ a ∷ asked_of ps) x h) none history) in
+      let each = subst (λ x. EachAnswers b x ((j0 ++ line ∷ []) ++ rest) [] ps) (append_assoc h0 (halt_at m ∷ []) h) later.answers in
+      let each' = subst (λ x. EachAnswers b (h0 ++ halt_at m ∷ h) x [] ps) (append_assoc j0 (line ∷ []) rest) each in
+      let one : c + clock_reads a.stmt ≡ c + 1 = omega (arith, accepts_reads a.stmt (verdict a.stmt s [] m) fit accepts) in
+      let told : Outcome P b front (p ∷ ps) h0 j0 s older c (line ∷ rest) = record {
+        entries = halt_at m ∷ h;
+        history = (ok.0, (refl, refl, refl, none), history);
+        moments = moments_more P (c + 1) (halt_at m) h (subst (λ x. P x m) one ok.2) (subst (λ x. Moments P (x + 1) h) one later.moments);
+        halts_last = subst (λ (x : List Entry). HaltsLast (halt_at m ∷ x)) (sym no_more) (λ k e is. cc);
+        answers = (subst (Answers b (h0 ++ halt_at m ∷ h) (j0 ++ line ∷ rest) [] a) (sym is_reply) (accepted_writes a.stmt s [] m accepts, halted_here b s older h0 j0 begins a m (halt_at m ∷ h) rest accepts), each');
       } in
       subst (λ y. Outcome P b front (p ∷ ps) h0 j0 s older c y) (sym lines) told
 
@@ -205,6 +272,20 @@ one_more w front before p ps m rows js counts reply later =
       rising = rises_with before a line js counts refl refl later.rising;
     }
 
+-- a turn that halts
+halt_more : (front : ℕ) (before : List Asked) (p : Replied) (ps : List Replied) (m : ℕ) (js : List JournalLine) → p.reply ≡ reply.StoreFaultHalt (front + 1) → InRun (front + 1) (before ++ p.asked ∷ []) ps js → InRun front before (p ∷ ps) (halt_line (front + 1) m ∷ js)
+halt_more front before p ps m js is_reply later =
+    let number_is : number p ≡ of_halt (front + 1) = ap (number_of p.asked.stmt) is_reply in
+    let version_is : version_of p.reply ≡ None = ap version_of is_reply in
+    record {
+      order = subst (λ n. AreFronts front (n ∷ map number ps)) (sym number_is) (refl, later.order);
+      versions = (refl, later.versions);
+      own = ((λ some. absurd (omega (arith, some))), own_later (map reply_line ps) (reply_line p) js later.own);
+      halts = ap (λ x. (front + 1) ∷ x) later.halts ∙ ap (λ x. with_halt x (halts_named (map reply_line ps))) (sym is_reply);
+      listed_are = later.listed_are ∙ ap (λ v. with_version v p.asked.session p.asked.ordinal (accepted (map reply_line ps))) (sym version_is);
+      rising = rises_beside before p.asked (halt_line (front + 1) m) js refl later.rising;
+    }
+
 -- a turn without an entry
 none_more : (front : ℕ) (before : List Asked) (p : Replied) (ps : List Replied) (js : List JournalLine) (n : Number) → number p ≡ n → IsFront front n → front_after front n ≡ front → version_of p.reply ≡ None → ((rest : List ℕ) → with_halt p.reply rest ≡ rest) → InRun front (before ++ p.asked ∷ []) ps js → InRun front before (p ∷ ps) js
 none_more front before p ps js n number_is is stays version_is no_halt later =
@@ -219,52 +300,57 @@ none_more front before p ps js n number_is is stays version_is no_halt later =
 
 module _ (P : ℕ → ℕ → Type 0) (b : State) where
   told_from : (front : List Asked) (ps : List Replied) (h0 : List Entry) (j0 : List JournalLine) (s t : State) (older : List State) (c : ℕ) (js : List JournalLine) → Begins b s older h0 j0 → Unseen front → Counted front (asked_of ps) → Plays P c s ps js t → Outcome P b front ps h0 j0 s older c js
-  told_from front [] h0 j0 s t older c js begins unseen counted play = rw play.0 (record { entries = []; history = tt; moments = λ k e is. cc; no_halts = refl; answers = tt })
+  told_from front [] h0 j0 s t older c js begins unseen counted play = rw play.0 (record { entries = []; history = tt; moments = λ k e is. cc; halts_last = λ k e is. cc; answers = tt })
   told_from front (p ∷ ps) h0 j0 s t older c js begins unseen counted play =
       let m = play.0 in
       let a = p.asked in
       let seen = unseen_more front a counted.0 unseen in
       let fit = fits a.stmt s [] m in
       elim play.2 as (λ v. Judged v (verdict a.stmt s [] m) → p.reply ≡ reply_of a.stmt v s → js ≡ as_list (line_then v s a.session a.ordinal m) ++ play.5 → Plays P (c + clock_reads a.stmt) (state_then v s a.session a.ordinal m) ps play.5 t → Outcome P b front (p ∷ ps) h0 j0 s older c js) [
-        | Some (Accept w rows) ↦ λ e reply lines rest.
+        | by_verdict (Accept w rows) ↦ λ e is_reply lines rest.
             let fit' : Fits a.stmt (Accept w rows) = subst (Fits a.stmt) (sym e) fit in
-            entered P b s older front p ps h0 j0 c m js play.5 begins w rows counted.0 unseen (sym e) fit' play.1 reply lines
+            entered P b s older front p ps h0 j0 c m js play.5 begins w rows counted.0 unseen (sym e) fit' play.1 is_reply lines
             (told_from (front ++ a ∷ []) ps (h0 ++ entry_at a.session a.ordinal m w ∷ []) (j0 ++ line_at (s.version + 1) a.session a.ordinal m ∷ []) (step (s ∷ []) (entry_at a.session a.ordinal m w)) t (s ∷ older) (c + clock_reads a.stmt) play.5 (begins_next b s older h0 j0 begins a.stmt a.session a.ordinal m w fit'.0) seen counted.1 rest)
-        | Some Pass ↦ λ e reply lines rest. kept P b s older front p ps h0 j0 c m js play.5 begins lines
-            (λ h. subst (Answers b (h0 ++ h) (j0 ++ play.5) [] a) (sym reply) (subst (Fits a.stmt) (sym e) fit, judged_here b s older h0 j0 begins a.stmt Pass m h play.5 play.1.0 play.1.1 (sym e), ap (header a.stmt) (sym (at_here b s older h0 j0 begins h)), ap (answer a.stmt) (sym (at_here b s older h0 j0 begins h))))
+        | by_verdict Pass ↦ λ e is_reply lines rest. kept P b s older front p ps h0 j0 c m js play.5 begins lines
+            (λ h. subst (Answers b (h0 ++ h) (j0 ++ play.5) [] a) (sym is_reply) (subst (Fits a.stmt) (sym e) fit, judged_here b s older h0 j0 begins a.stmt Pass m h play.5 play.1.0 play.1.1 (sym e), ap (header a.stmt) (sym (at_here b s older h0 j0 begins h)), ap (answer a.stmt) (sym (at_here b s older h0 j0 begins h))))
             (told_from (front ++ a ∷ []) ps h0 j0 s t older (c + clock_reads a.stmt) play.5 begins seen counted.1 rest)
-        | Some (Refuse cause) ↦ λ e reply lines rest. kept P b s older front p ps h0 j0 c m js play.5 begins lines
-            (λ h. subst (Answers b (h0 ++ h) (j0 ++ play.5) [] a) (sym reply) (judged_here b s older h0 j0 begins a.stmt (Refuse cause) m h play.5 play.1.0 play.1.1 (sym e)))
+        | by_verdict (Refuse cause) ↦ λ e is_reply lines rest. kept P b s older front p ps h0 j0 c m js play.5 begins lines
+            (λ h. subst (Answers b (h0 ++ h) (j0 ++ play.5) [] a) (sym is_reply) (judged_here b s older h0 j0 begins a.stmt (Refuse cause) m h play.5 play.1.0 play.1.1 (sym e)))
             (told_from (front ++ a ∷ []) ps h0 j0 s t older (c + clock_reads a.stmt) play.5 begins seen counted.1 rest)
-        | None ↦ λ e reply lines rest. kept P b s older front p ps h0 j0 c m js play.5 begins lines
-            (λ h. subst (Answers b (h0 ++ h) (j0 ++ play.5) [] a) (sym reply) tt)
+        | starved ↦ λ e is_reply lines rest. kept P b s older front p ps h0 j0 c m js play.5 begins lines
+            (λ h. subst (Answers b (h0 ++ h) (j0 ++ play.5) [] a) (sym is_reply) tt)
             (told_from (front ++ a ∷ []) ps h0 j0 s t older (c + clock_reads a.stmt) play.5 begins seen counted.1 rest)
+        | halted ↦ λ e is_reply lines rest. stopped P b s older front p ps h0 j0 c m js play.5 begins e fit play.1 is_reply lines (none_listed P (c + clock_reads a.stmt) (step (s ∷ []) (halt_at m)) t ps play.5 (s.version + 1) refl rest)
+            (told_from (front ++ a ∷ []) ps (h0 ++ halt_at m ∷ []) (j0 ++ halt_line (s.version + 1) m ∷ []) (step (s ∷ []) (halt_at m)) t (s ∷ older) (c + clock_reads a.stmt) play.5 (begins_halted b s older h0 j0 begins m) seen counted.1 rest)
       ] play.3 play.4 play.6 play.7
 
   -- the numbers of the replies run with the front, and the journal lists the accepted ones, each once
   in_order_from : (before : List Asked) (ps : List Replied) (s t : State) (c : ℕ) (js : List JournalLine) → Counted before (asked_of ps) → Plays P c s ps js t → InRun s.version before ps js
-  in_order_from before [] s t c js counted play = rw play.0 (record { order = tt; versions = tt; own = tt; listed_are = refl; halts = refl; rising = λ session. tt })
+  in_order_from before [] s t c js counted play = rw play.0 (record { order = tt; versions = tt; own = tt; listed_are = refl; halts = refl; rising = λ session some. tt })
   in_order_from before (p ∷ ps) s t c js counted play =
       let m = play.0 in
       let a = p.asked in
       elim play.2 as (λ v. Judged v (verdict a.stmt s [] m) → p.reply ≡ reply_of a.stmt v s → js ≡ as_list (line_then v s a.session a.ordinal m) ++ play.5 → Plays P (c + clock_reads a.stmt) (state_then v s a.session a.ordinal m) ps play.5 t → InRun s.version before (p ∷ ps) js) [
-        | Some (Accept w rows) ↦ λ e reply lines rest.
+        | by_verdict (Accept w rows) ↦ λ e is_reply lines rest.
             let later = in_order_from (before ++ a ∷ []) ps _ t (c + clock_reads a.stmt) play.5 counted.1 rest in
-            subst (InRun s.version before (p ∷ ps)) (sym lines) (one_more w s.version before p ps m rows play.5 counted.0 reply (subst (λ f. InRun f (before ++ a ∷ []) ps play.5) (step_version (s ∷ []) (entry_at a.session a.ordinal m w)) later))
-        | Some Pass ↦ λ e reply lines rest.
+            subst (InRun s.version before (p ∷ ps)) (sym lines) (one_more w s.version before p ps m rows play.5 counted.0 is_reply (subst (λ f. InRun f (before ++ a ∷ []) ps play.5) (step_version (s ∷ []) (entry_at a.session a.ordinal m w)) later))
+        | by_verdict Pass ↦ λ e is_reply lines rest.
             let later = in_order_from (before ++ a ∷ []) ps s t (c + clock_reads a.stmt) play.5 counted.1 rest in
             let query : is_query a.stmt ≡ true = subst (Fits a.stmt) (sym e) (fits a.stmt s [] m) in
-            subst (InRun s.version before (p ∷ ps)) (sym lines) (none_more s.version before p ps play.5 (of_state s.version) (ap (number_of a.stmt) reply ∙ answer_numbered a.stmt s.version query) refl refl (ap version_of reply) (λ rest. ap (λ x. with_halt x rest) reply) later)
-        | Some (Refuse cause) ↦ λ e reply lines rest.
+            subst (InRun s.version before (p ∷ ps)) (sym lines) (none_more s.version before p ps play.5 (of_state s.version) (ap (number_of a.stmt) is_reply ∙ answer_numbered a.stmt s.version query) refl refl (ap version_of is_reply) (λ rest. ap (λ x. with_halt x rest) is_reply) later)
+        | by_verdict (Refuse cause) ↦ λ e is_reply lines rest.
             let later = in_order_from (before ++ a ∷ []) ps s t (c + clock_reads a.stmt) play.5 counted.1 rest in
-            subst (InRun s.version before (p ∷ ps)) (sym lines) (none_more s.version before p ps play.5 (of_state s.version) (ap (number_of a.stmt) reply) refl refl (ap version_of reply) (λ rest. ap (λ x. with_halt x rest) reply) later)
-        | None ↦ λ e reply lines rest.
+            subst (InRun s.version before (p ∷ ps)) (sym lines) (none_more s.version before p ps play.5 (of_state s.version) (ap (number_of a.stmt) is_reply) refl refl (ap version_of is_reply) (λ rest. ap (λ x. with_halt x rest) is_reply) later)
+        | starved ↦ λ e is_reply lines rest.
             let later = in_order_from (before ++ a ∷ []) ps s t (c + clock_reads a.stmt) play.5 counted.1 rest in
-            subst (InRun s.version before (p ∷ ps)) (sym lines) (none_more s.version before p ps play.5 unnumbered (ap (number_of a.stmt) reply) tt refl (ap version_of reply) (λ rest. ap (λ x. with_halt x rest) reply) later)
+            subst (InRun s.version before (p ∷ ps)) (sym lines) (none_more s.version before p ps play.5 unnumbered (ap (number_of a.stmt) is_reply) tt refl (ap version_of is_reply) (λ rest. ap (λ x. with_halt x rest) is_reply) later)
+        | halted ↦ λ e is_reply lines rest.
+            let later = in_order_from (before ++ a ∷ []) ps (step (s ∷ []) (halt_at m)) t (c + clock_reads a.stmt) play.5 counted.1 rest in
+            subst (InRun s.version before (p ∷ ps)) (sym lines) (halt_more s.version before p ps m play.5 is_reply (subst (λ f. InRun f (before ++ a ∷ []) ps play.5) (step_version (s ∷ []) (halt_at m)) later))
       ] play.3 play.4 play.6 play.7
 
   -- what must be known of the moments for them to be timed
-  pub told_of_plays : (readings : Option (List ℕ)) → ((h : List Entry) → without_halts h ≡ h → Moments P 1 h → Timed readings b.moment h) → (ps : List Replied) (rs : List (ℕ × ℕ × Reply)) (js : List JournalLine) (t : State) → rs ≡ map reply_line ps → Counted [] (asked_of ps) → Plays P 0 b ps js t → ToldInOrder b readings (asked_of ps) (record { base = b.version; replies = rs; streams = []; journal = js })
+  pub told_of_plays : (readings : Option (List ℕ)) → ((h : List Entry) → HaltsLast h → Moments P 1 h → Timed readings b.moment h) → (ps : List Replied) (rs : List (ℕ × ℕ × Reply)) (js : List JournalLine) (t : State) → rs ≡ map reply_line ps → Counted [] (asked_of ps) → Plays P 0 b ps js t → ToldInOrder b readings (asked_of ps) (record { base = b.version; replies = rs; streams = []; journal = js })
   told_of_plays readings times ps rs js t replies counted play =
       let none : Unseen [] = λ session ordinal l. refl in
       let all = told_from [] ps [] [] b t [] 0 js (record { states = refl; version = omega arith; lines = refl }) none counted play in
@@ -280,11 +366,12 @@ module _ (P : ℕ → ℕ → Type 0) (b : State) where
           replies = record { statements_are = refl; replies_are = replies };
           answers = all.answers;
           own_lines = subst (λ x. AreAccepted x js) (sym replies) run.own;
-          one_each = λ session some. run.rising session;
+          one_each = λ session some. run.rising session some;
+          one_halt = subst (λ (x : List ℕ). length x ≤ 1) (run.halts ∙ ap halts_named (sym replies)) (few_halts (b ∷ []) (asked_of ps) js all.entries all.history);
           numbers = λ session. session_numbers session b.version b.version ps low run.order;
           phases = phase_numbers 0 b.version b.version b.version ps low low run.order;
           streams = refl;
-          moments = times all.entries all.no_halts all.moments;
+          moments = times all.entries all.halts_last all.moments;
         };
         own_entries = run.listed_are ∙ ap accepted (sym replies);
         halts = run.halts ∙ ap halts_named (sym replies);

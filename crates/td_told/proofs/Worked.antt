@@ -20,21 +20,21 @@ use Rattle.td_model.specs.declared.language.Stmt.{Stmt}
 use Rattle.td_model.specs.declared.language.Stmt.TheVariants as stmt
 use Rattle.td_model.specs.declared.history.What.TheVariants as what
 use Rattle.td_model.specs.declared.history.Entry.{Entry}
-use Rattle.td_model.specs.declared.history.Verdict.TheVariants.{Refuse}
-use Rattle.td_model.specs.declared.report.Cause.TheVariants.{Syntax, OptionNotBuilt, UnknownTable, NameTaken, OutOfRange}
+use Rattle.td_model.specs.declared.history.Verdict.TheVariants.{Accept, Pass, Refuse}
+use Rattle.td_model.specs.declared.report.Cause.TheVariants.{Syntax, OptionNotBuilt, Stopped, TooManyVersions, UnknownTable, NameTaken, OutOfRange}
 use Rattle.td_model.specs.declared.report.Reply.{Reply}
 use Rattle.td_model.specs.declared.report.Reply.TheVariants as reply
 use Rattle.td_model.specs.declared.report.Mark.TheVariants as mark
 use Rattle.td_model.specs.declared.report.JournalLine.{JournalLine}
 use Rattle.td_model.specs.declared.report.Report.{Report}
-use Rattle.td_model.specs.State.{empty_state, after}
+use Rattle.td_model.specs.State.{State, empty_state, after}
 use Rattle.td_cols.specs.declared.kinds.Kind.TheVariants.{I32, Time}
 use Rattle.td_cols.specs.Kinds.{is_in_range, kind_least, kind_most}
 use Rattle.td_told.specs.Asked.{Asked}
 use Rattle.td_told.specs.Verdict.{verdict, answer}
 use Rattle.td_told.specs.Times.{reading, without_halts}
 use Rattle.td_told.specs.Numbers.{Replied, number, AreFronts}
-use Rattle.td_told.specs.Journal.{Rising, lines_of}
+use Rattle.td_told.specs.Journal.{Rising, lines_of, halt_at}
 use Rattle.td_told.specs.Replies.{reply_line}
 use Rattle.td_told.specs.Told.{ToldInOrder}
 use Rattle.td_told.proofs.Orders.{session_numbers, phase_numbers}
@@ -73,6 +73,32 @@ not_built = refl
 pub no_timestamp : verdict (insert (negsuc 0) (pos 7)) (after empty_state (made ∷ [])) [] 0 ≡ Refuse (OutOfRange (codes "ts"))
 unfolding is_in_range kind_least kind_most
 no_timestamp = refl
+
+-- after a halt a write is refused, whatever it says, and a query isn't; a form that isn't built comes before
+abbrev after_halt : State
+after_halt = after empty_state (made ∷ halt_at 2000000000001 ∷ [])
+
+pub stopped : verdict make after_halt [] 2000000000002 ≡ Refuse (Stopped 2)
+stopped = refl
+
+pub still_answered : verdict select_all after_halt [] 0 ≡ Pass
+still_answered = refl
+
+pub still_not_built : verdict (stmt.Step (codes "s")) after_halt [] 0 ≡ Refuse OptionNotBuilt
+still_not_built = refl
+
+-- a write is taken up to version 281474976710653, and none from the next version on
+abbrev at_version : ℕ → State
+at_version version = record empty_state { version = version }
+
+pub last_taken : verdict make (at_version 281474976710653) [] 0 ≡ Accept made.what 0
+last_taken = refl
+
+pub too_many : verdict make (at_version 281474976710654) [] 0 ≡ Refuse TooManyVersions
+too_many = refl
+
+pub stopped_first : verdict make (record (at_version 281474976710654) { halt = Some 7 }) [] 0 ≡ Refuse (Stopped 7)
+stopped_first = refl
 
 -- a timestamp that comes again updates its row, and rows come in the order of their timestamps
 pub updated : answer select_all (after empty_state (made ∷ put_seven ∷ put_at 5 (pos 8) 2000000000003 ∷ put_at 3 (negsuc 0) 2000000000004 ∷ [])) ≡ (Num (pos 3) ∷ Num (negsuc 0) ∷ []) ∷ (Num (pos 5) ∷ Num (pos 8) ∷ []) ∷ []
@@ -184,6 +210,7 @@ told = record {
     );
     own_lines = ((λ some. (reply.Accepted 1, (1, omega arith, refl), refl)), ((λ some. (reply.AcceptedRows 2 1, (3, omega arith, refl), refl)), tt));
     one_each = rises;
+    one_halt = omega arith;
     numbers = λ session. session_numbers session 0 0 replies (omega arith) in_order;
     phases = phase_numbers 0 0 0 0 replies (omega arith) (omega arith) in_order;
     streams = refl;

@@ -11,9 +11,10 @@ pub record Replied : Type 0 where
   pub asked : Asked
   pub reply : Reply
 
--- the number of a reply: the version of an entry, the version at which a statement was judged, or none
+-- the number of a reply: the version of an entry, that of a halt, the version at which a statement was judged, or none
 pub data Number : Type 0 where
   of_entry : ℕ → Number
+  of_halt : ℕ → Number
   of_state : ℕ → Number
   unnumbered : Number
 
@@ -29,6 +30,7 @@ number_of q (reply.AcceptedEdge v edge) = of_entry v
 number_of q (reply.Answer p names rows) = answer_number q p
 number_of q (reply.Opened p) = of_state p
 number_of q (reply.Refused p cause) = of_state p
+number_of q (reply.StoreFaultHalt v) = of_halt v
 number_of q r = unnumbered
 
 abbrev pub number : Replied → Number
@@ -38,19 +40,21 @@ number p = number_of p.asked.stmt p.reply
 abbrev pub numbers_of : ℕ → List Replied → List Number
 numbers_of session replied = map number (filter (λ (p : Replied). p.asked.session == session) replied)
 
--- a number isn't below one that was seen, and is greater where it is an entry's
+-- a number isn't below one that was seen, and is greater where it is an entry's or a halt's
 abbrev pub Follows : ℕ → Number → Type 0
 Follows seen (of_entry v) = seen < v
+Follows seen (of_halt v) = seen < v
 Follows seen (of_state p) = seen ≤ p
 Follows seen unnumbered = Unit {0}
 
 -- a number, or else another
 abbrev pub number_or : ℕ → Number → ℕ
 number_or seen (of_entry v) = v
+number_or seen (of_halt v) = v
 number_or seen (of_state p) = p
 number_or seen unnumbered = seen
 
--- the numbers don't fall, and that of an entry is greater than those before it
+-- the numbers don't fall, and that of an entry or of a halt is greater than those before it
 abbrev pub NeverFalling : ℕ → List Number → Type 0
 NeverFalling seen [] = Unit {0}
 NeverFalling seen (n ∷ ns) = Follows seen n × NeverFalling (number_or seen n) ns
@@ -63,15 +67,17 @@ PhasesFollow phase seen top (p ∷ ps) =
     let low = if p.asked.phase == phase then seen else top in
     Follows low (number p) × PhasesFollow p.asked.phase low (max top (number_or top (number p))) ps
 
--- a number is the front that the replies before it left, and one more where it is an entry's
+-- a number is the front that the replies before it left, and one more where it is an entry's or a halt's
 abbrev pub IsFront : ℕ → Number → Type 0
 IsFront front (of_entry v) = v ≡ front + 1
+IsFront front (of_halt v) = v ≡ front + 1
 IsFront front (of_state p) = p ≡ front
 IsFront front unnumbered = Unit {0}
 
 -- the front after a number
 abbrev pub front_after : ℕ → Number → ℕ
 front_after front (of_entry v) = front + 1
+front_after front (of_halt v) = front + 1
 front_after front (of_state p) = front
 front_after front unnumbered = front
 

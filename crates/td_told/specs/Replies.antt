@@ -11,6 +11,7 @@ use Rattle.td_model.specs.declared.history.Verdict.{Verdict}
 use Rattle.td_model.specs.declared.history.Verdict.TheVariants.{Accept, Pass, Refuse}
 use Rattle.td_model.specs.declared.report.Reply.{Reply}
 use Rattle.td_model.specs.declared.report.Reply.TheVariants as reply
+use Rattle.td_model.specs.declared.report.Mark.TheVariants as mark
 use Rattle.td_model.specs.declared.report.JournalLine.{JournalLine}
 use Rattle.td_model.specs.Built.{is_write}
 use Rattle.td_model.specs.State.{State, at}
@@ -72,6 +73,20 @@ pub record Entered
   pub ordinal_is : line.ordinal ≡ a.ordinal
   pub accepted : verdict a.stmt (at b h (version - 1)) [] line.moment ≡ Accept w rows
 
+-- The journal has, at this version, a halt, which came as the entry of this statement was to be written: the verdict
+-- accepts it in the state before the halt, at the halt's moment. No open cursor has a part in it.
+pub record Halted
+    (b : State) (h : List Entry) (journal : List JournalLine) (a : Asked) (version : ℕ)
+    : Type 0 where
+  pub line : JournalLine
+  pub after_base : b.version < version
+  pub listed : slice_get journal (version - b.version - 1) ≡ Some line
+  pub version_is : line.version ≡ version
+  pub mark_is : line.mark ≡ mark.Halt
+  pub what : What
+  pub rows : ℕ
+  pub accepted : verdict a.stmt (at b h (version - 1)) [] line.moment ≡ Accept what rows
+
 -- p is a version that b or an entry has
 abbrev pub IsPrefix : State → List JournalLine → ℕ → Type 0
 IsPrefix b journal p = (b.version ≤ p) × (p ≤ b.version + length journal)
@@ -90,7 +105,8 @@ pub record JudgedAt
 -- What a reply to a statement says, where its session has these cursors open. An accepted one is of its form and
 -- names its own line of the journal; `rows` and `edge` are the verdict's. A refused one has the cause that the
 -- verdict gives in the state at its prefix; an answer has the header and the rows of the query in the state at its
--- prefix. No other reply comes so far but for want of memory.
+-- prefix. A fault of the store that halts is of a write, and names the halt. No other reply comes so far but for want
+-- of memory.
 abbrev pub Answers : State → List Entry → List JournalLine → List Cursor → Asked → Reply → Type 0
 Answers b h journal cursors a (reply.Accepted v) =
     (is_other_write a.stmt ≡ true) × (w : What) × (rows : ℕ) × Entered b h journal a v w rows
@@ -103,6 +119,7 @@ Answers b h journal cursors a (reply.Answer p names rows) =
     × (names ≡ header a.stmt (at b h p)) × (rows ≡ answer a.stmt (at b h p))
 Answers b h journal cursors a (reply.Refused p cause) =
     JudgedAt b h journal (names_of cursors) a.stmt p (Refuse cause)
+Answers b h journal cursors a (reply.StoreFaultHalt v) = (is_write a.stmt ≡ true) × Halted b h journal a v
 Answers b h journal cursors a reply.NoMemory = Unit {0}
 Answers b h journal cursors a r = ⊥
 

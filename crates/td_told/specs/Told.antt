@@ -1,5 +1,5 @@
 -- When a report tells the run of a script, from a state on.
-use Rattle.std.specs.Prelude.{◌≡◌, ℕ, ◌<◌, List, [], ◌∷◌, map, Option}
+use Rattle.std.specs.Prelude.{◌≡◌, ℕ, ◌≤◌, ◌<◌, List, [], ◌∷◌, map, length, Option}
 use Rattle.td_model.specs.declared.history.Entry.{Entry}
 use Rattle.td_model.specs.declared.report.Report.{Report}
 use Rattle.td_model.specs.State.{State}
@@ -27,6 +27,8 @@ pub record Told (b : State) (readings : Option (List ℕ)) (script printed : Lis
   -- no statement has two
   pub own_lines : AreAccepted r.replies r.journal
   pub one_each : (session : ℕ) → 0 < session → Rising 0 (lines_of session r.journal)
+  -- at most one reply names a halt
+  pub one_halt : length (halts_named r.replies) ≤ 1
   -- along a session the numbers of the replies don't fall, and those of a phase follow those of all earlier phases
   pub numbers : (session : ℕ) → NeverFalling b.version (numbers_of session replied)
   pub phases : PhasesFollow 0 b.version b.version replied
@@ -37,7 +39,7 @@ pub record Told (b : State) (readings : Option (List ℕ)) (script printed : Lis
 
 -- It tells them in the order of the lines, in which the replies are printed: the lines of the journal that aren't halts
 -- are the accepted replies in their order; a halt is one that a reply names; and each reply has the number of the front
--- that the lines before it left, which is one more where it was accepted.
+-- that the lines before it left, which is one more where it was accepted or names a halt.
 pub record ToldInOrder (b : State) (readings : Option (List ℕ)) (script : List Asked) (r : Report) : Type 0 where
   pub told : Told b readings script script r
   pub own_entries : listed r.journal ≡ accepted r.replies

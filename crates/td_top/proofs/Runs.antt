@@ -57,17 +57,16 @@ counted_of before (k ∷ ls) front (a ∷ script) done all n =
     all.0.ordinal ∙ n.2 ∙ ap (λ c. c + 1) (sym (same_count k.session before front done) ∙ ap (λ s. count_of s front) (sym all.0.session)) in
     (here, counted_of (before ++ k ∷ []) ls (front ++ a ∷ []) script (asks_more before front k a done all.0) all.1 n.3)
 
--- What the lines so far, of which there are n, have given.
-pub record Progress (readings now : Option (List ℕ)) (lines : List Line) (rs : List (ℕ × ℕ × Reply)) (js : List JournalLine) (t : State) (floor n : ℕ) : Type 0 where
+-- What the lines so far have given.
+pub record Progress (readings now : Option (List ℕ)) (lines : List Line) (rs : List (ℕ × ℕ × Reply)) (js : List JournalLine) (t : State) (floor : ℕ) : Type 0 where
   pub replied : List Replied
   pub replies : rs ≡ map reply_line replied
   pub asks : AsksAll lines (asked_of replied)
   pub played : Plays (MomentIs readings) 0 empty_state replied js t
   pub taken : Taken readings (reads (asked_of replied)) now floor
   pub early : t.moment ≤ floor
-  pub few : t.version ≤ n
 
-pub begun : (readings : Option (List ℕ)) (rs : List (ℕ × ℕ × Reply)) (js : List JournalLine) (t : State) → rs ≡ [] → js ≡ [] → t ≡ empty_state → Progress readings readings [] rs js t 0 0
+pub begun : (readings : Option (List ℕ)) (rs : List (ℕ × ℕ × Reply)) (js : List JournalLine) (t : State) → rs ≡ [] → js ≡ [] → t ≡ empty_state → Progress readings readings [] rs js t 0
 begun readings rs js t replies journal state = record {
   replied = [];
   replies = replies;
@@ -75,11 +74,10 @@ begun readings rs js t replies journal state = record {
   played = nothing_played (MomentIs readings) 0 empty_state t js journal state;
   taken = record { left = left_first readings; moment = moment_first readings; most = omega arith };
   early = omega (arith, ap (λ (s : State). s.moment) state);
-  few = omega (arith, ap (λ (s : State). s.version) state);
 }
 
-pub goes_on : (readings now now' : Option (List ℕ)) (lines : List Line) (rs rs' : List (ℕ × ℕ × Reply)) (js js' : List JournalLine) (t t' : State) (floor n m : ℕ) (l : Line) (r : Reply) (line : Option JournalLine) → Progress readings now lines rs js t floor n → TurnOf l t t' now now' floor m r line → rs' ≡ rs ++ reply_line_at l.session l.ordinal r ∷ [] → js' ≡ js ++ as_list line → Progress readings now' (lines ++ l ∷ []) rs' js' t' m (n + 1)
-goes_on readings now now' lines rs rs' js js' t t' floor n m l r line p turn replies journal =
+pub goes_on : (readings now now' : Option (List ℕ)) (lines : List Line) (rs rs' : List (ℕ × ℕ × Reply)) (js js' : List JournalLine) (t t' : State) (floor m : ℕ) (l : Line) (r : Reply) (line : Option JournalLine) → Progress readings now lines rs js t floor → TurnOf l t t' now now' floor m r line → rs' ≡ rs ++ reply_line_at l.session l.ordinal r ∷ [] → js' ≡ js ++ as_list line → Progress readings now' (lines ++ l ∷ []) rs' js' t' m
+goes_on readings now now' lines rs rs' js js' t t' floor m l r line p turn replies journal =
     let a = turn.asked in
     let taken = turn_taken a.stmt readings (reads (asked_of p.replied)) now now' floor m p.taken turn.takes in
     let may : MayBe (MomentIs readings) t _ m = (omega (arith, p.early, taken.later), taken.taken.most, taken.taken.moment) in
@@ -93,11 +91,10 @@ goes_on readings now now' lines rs rs' js js' t t' floor n m l r line p turn rep
       played = left.played;
       taken = subst (λ c. Taken readings c now' m) (sym (reads_more (asked_of p.replied) a) ∙ ap reads (sym more)) taken.taken;
       early = left.floor;
-      few = omega (arith, left.counted, p.few);
     }
 
-pub told : (readings now : Option (List ℕ)) (lines : List Line) (rs : List (ℕ × ℕ × Reply)) (js : List JournalLine) (t : State) (floor n : ℕ) → Numbered [] lines → Progress readings now lines rs js t floor n → PlaysLines empty_state readings now lines (record { base = 0; replies = rs; streams = []; journal = js })
-told readings now lines rs js t floor n numbered p = record {
+pub told : (readings now : Option (List ℕ)) (lines : List Line) (rs : List (ℕ × ℕ × Reply)) (js : List JournalLine) (t : State) (floor : ℕ) → Numbered [] lines → Progress readings now lines rs js t floor → PlaysLines empty_state readings now lines (record { base = 0; replies = rs; streams = []; journal = js })
+told readings now lines rs js t floor numbered p = record {
   tells = record {
     script = asked_of p.replied;
     asks = p.asks;

@@ -1,5 +1,5 @@
 //! The lines of a script, played one after another.
-ghost use Rattle.std.specs.Prelude.{◌≡◌, ◌<◌, ◌≤◌, ◌+◌, ◌^◌, ◌++◌, ◌∷◌, [], IfOk, OnOk, length};
+ghost use Rattle.std.specs.Prelude.{◌≡◌, ◌≤◌, ◌++◌, ◌∷◌, [], IfOk, OnOk};
 ghost use Rattle.td_script.specs.Script.{Numbered};
 ghost use Rattle.td_model.specs.State.{empty_state};
 ghost use Rattle.td_told.specs.Turn.{as_list};
@@ -12,7 +12,7 @@ use td_limits::LAST_TIMESTAMP;
 use td_model::{JournalLine, Report, Stmt};
 use td_outside::Clock;
 use td_parse::{Line, statement};
-use td_tables::{RowMap, Tables, Turn};
+use td_tables::{Tables, Turn};
 use td_told::reads_clock;
 
 fn push_line(journal: &mut Seq<JournalLine>, line: Option<JournalLine>) -> Result<(), NoMem>
@@ -38,17 +38,16 @@ fn moment_of<C: Clock>(stmt: &Stmt, floor: u64, clock: &mut C) -> u64
 }
 
 // A line's turn: its text is read as a statement, which has its turn on the tables at its moment.
-fn turn_of<M: RowMap, C: Clock>(
+fn turn_of<C: Clock>(
     alloc: Global,
-    tables: &mut Tables<M>,
+    tables: &mut Tables,
     line: &Line,
     floor: u64,
     clock: &mut C,
 ) -> Result<(u64, Turn), NoMem>
-    requires version { tables.old.version + 1 < 2 ^ 64 }
-    requires floor { floor ≤ LAST_TIMESTAMP }
-    ensures { IfOk result (λ r. TurnOf line.now tables.old tables.new (C.readings clock.old) (C.readings clock.new)
-        floor r.0 r.1.reply r.1.line) }
+    requires { floor ≤ LAST_TIMESTAMP }
+    ensures { IfOk result (λ r. TurnOf line.now tables.old.state tables.new.state
+        (C.readings clock.old) (C.readings clock.new) floor r.0 r.1.reply r.1.line) }
 {
     let stmt = statement(alloc, line.text.as_slice())?;
     let moment = moment_of(&stmt, floor, clock);
@@ -56,21 +55,13 @@ fn turn_of<M: RowMap, C: Clock>(
     Ok((moment, turn))
 }
 
-/// Plays the lines of a script in their order, from no table on and over a map without rows. The answer is the
-/// report, or want of memory for it. The turn of a write or of a text that is no statement reads the clock once, that
+/// Plays the lines of a script in their order, from no table on. The answer is the report, or want of memory for it. The turn of a write or of a text that is no statement reads the clock once, that
 /// of a query not at all; the moments are the clock's readings, and don't fall where these do.
-pub fn play_lines<M: RowMap, C: Clock>(
-    alloc: Global,
-    rows: M,
-    lines: &[Line],
-    clock: &mut C,
-) -> Result<Report, NoMem>
-    requires few { length lines.now < 2 ^ 32 }
-    requires numbered { Numbered [] lines.now }
-    requires empty { M.rows rows ≡ [] }
+pub fn play_lines<C: Clock>(alloc: Global, lines: &[Line], clock: &mut C) -> Result<Report, NoMem>
+    requires { Numbered [] lines.now }
     ensures { IfOk result (λ r. PlaysLines empty_state (C.readings clock.old) (C.readings clock.new) lines.now r) }
 {
-    let mut tables = Tables::new(alloc, rows);
+    let mut tables = Tables::new(alloc);
     let mut replies = Seq::new(alloc);
     let mut journal = Seq::new(alloc);
     let mut floor = 0;

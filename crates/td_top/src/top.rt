@@ -17,24 +17,17 @@ use td_limits::SCRIPT_BYTES;
 use td_outside::{Clock, Failed, Gate, Place, Sink, Source};
 use td_parse::script;
 use td_report::report;
-use td_tables::{OrderedRows, RowMap};
 use td_words::{Command, is_dir, read_command};
 
-/// The text of the report of a script, over a map without rows: `BadScript` where the bytes are none, with the first
+/// The text of the report of a script: `BadScript` where the bytes are none, with the first
 /// line of no form, and `NoMemory` for want of memory.
-pub fn told_of<M: RowMap, C: Clock>(
-    alloc: Global,
-    rows: M,
-    bytes: &[u8],
-    clock: &mut C,
-) -> Result<Seq<u8>, Status>
+pub fn told_of<C: Clock>(alloc: Global, bytes: &[u8], clock: &mut C) -> Result<Seq<u8>, Status>
     requires few { length bytes.now ≤ SCRIPT_BYTES }
-    requires empty { M.rows rows ≡ [] }
     ensures told { IfOk result (λ text. TextTells empty_state (C.readings clock.old) bytes.now text) }
     ensures ended { IfErr result (λ status. TextEnded bytes.now status) }
 {
     let lines = script(alloc, bytes)?;
-    let told = play_lines(alloc, rows, lines.as_slice(), clock)?;
+    let told = play_lines(alloc, lines.as_slice(), clock)?;
     let text = report(alloc, &told)?;
     Ok(text)
 }
@@ -54,7 +47,7 @@ fn report_of<I: Source, C: Clock>(
     ensures given { GaveFew (I.given input.old) (I.given input.new) }
 {
     let bytes = read_all(alloc, input)?;
-    let text = told_of(alloc, OrderedRows::new(alloc), bytes.as_slice(), clock)?;
+    let text = told_of(alloc, bytes.as_slice(), clock)?;
     Ok(text)
 }
 

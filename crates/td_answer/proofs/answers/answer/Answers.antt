@@ -26,7 +26,7 @@ whole q s p kept plan found =
 pub returns-clause-part : goal.returns-clause-part
 returns-clause-part g c = λ q s sound plan rows.
     let p = c.args.plan.now in
-    let kept : Rows = g.M.RowMap.rows c.args.rows.now in
+    let kept : Rows = g.M.RowsByKey.rows c.args.rows.now in
     let late : AllByRecursion (λ (e : Key × Row). e.0.ts ≤ LAST_TIMESTAMP) kept = subst (λ (rs : Rows). AllByRecursion (λ (e : Key × Row). e.0.ts ≤ LAST_TIMESTAMP) rs) (sym rows) (rows_late s sound) in
     let found : plan_found p (comparisons_of p.schema p.query.conds) kept ≡ picked q s = plan_picks q s.catalog p kept plan late (source_time q s.catalog sound.catalog) ∙ ap (λ rs. picked q (record s { rows = rs })) rows in
     c.in_ok-shown.ensures.part ∙ ap (λ xs. take c.args.count (drop c.args.skip xs)) (whole q s p kept plan found)
@@ -34,7 +34,7 @@ returns-clause-part g c = λ q s sound plan rows.
 pub returns-clause-small : goal.returns-clause-small
 returns-clause-small g c = λ q s sound plan rows.
     let p = c.args.plan.now in
-    let kept : Rows = g.M.RowMap.rows c.args.rows.now in
+    let kept : Rows = g.M.RowsByKey.rows c.args.rows.now in
     let late : AllByRecursion (λ (e : Key × Row). e.0.ts ≤ LAST_TIMESTAMP) kept = subst (λ (rs : Rows). AllByRecursion (λ (e : Key × Row). e.0.ts ≤ LAST_TIMESTAMP) rs) (sym rows) (rows_late s sound) in
     let found : plan_found p (comparisons_of p.schema p.query.conds) kept ≡ picked q s = plan_picks q s.catalog p kept plan late (source_time q s.catalog sound.catalog) ∙ ap (λ rs. picked q (record s { rows = rs })) rows in
     subst (λ xs. length xs < 2 ^ 63) (whole q s p kept plan found) c.in_ok-shown.ensures.small

@@ -12,7 +12,7 @@ returns-clause-part g c =
     let plan = c.args.plan.now in
     let q = plan.query in
     let columns = plan.schema.columns in
-    let rows = g.M.RowMap.rows c.args.rows.now in
+    let rows = g.M.RowsByKey.rows c.args.rows.now in
     let entries = c.in_ok-picked.picked.entries in
     let places = c.as_slice-4.result.now in
     c.in_ok-all.ensures
@@ -27,7 +27,7 @@ returns-clause-small g c =
     let plan = c.args.plan.now in
     let q = plan.query in
     let columns = plan.schema.columns in
-    let rows = g.M.RowMap.rows c.args.rows.now in
+    let rows = g.M.RowsByKey.rows c.args.rows.now in
     let entries = c.in_ok-picked.picked.entries in
     let places = shown_places (reads_one plan) plan.schema q in
     let found = c.in_ok-picked.ensures ∙ ap (λ ps. plan_found plan ps rows) (c.as_slice-2.ensures ∙ c.in_ok-comparisons.ensures ∙ ap (comparisons_of plan.schema) c.as_slice.ensures) in

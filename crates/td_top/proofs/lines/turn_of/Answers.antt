@@ -1,4 +1,4 @@
-use Rattle.std.proofs.Common.{refl, subst}
+use Rattle.std.proofs.Common.{inl, refl, subst}
 use Rattle.td_parse.specs.Statements.{IsAnswer}
 use Rattle.td_top.proofs.lines.turn_of.Goals as goal
 
@@ -9,5 +9,5 @@ returns g c =
       asked = record { phase = line.phase; session = line.session; ordinal = line.ordinal; stmt = c.in_ok-stmt.stmt };
       asks = record { phase = refl; session = refl; ordinal = refl; stmt = subst (λ x. IsAnswer x c.in_ok-stmt.stmt) c.as_slice.ensures c.in_ok-stmt.ensures };
       takes = c.moment_of-moment.ensures.takes;
-      answers = c.turn-turn.ensures;
+      answers = inl c.turn-turn.ensures;
     }

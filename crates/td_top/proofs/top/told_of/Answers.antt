@@ -4,5 +4,5 @@ use Rattle.td_script.specs.Script.{Numbered}
 use Rattle.td_script.proofs.Whole.{numbered}
 use Rattle.td_top.proofs.top.told_of.Goals as goal
 
-pub play_lines-requires-clause-numbered : goal.play_lines-requires-clause-numbered
-play_lines-requires-clause-numbered g c κs within = subst (λ (x : List Line). Numbered [] x) (sym c.as_slice.ensures) (numbered _ c.in_ok-lines.lines c.in_ok-lines.ensures.script)
+pub play_lines-requires : goal.play_lines-requires
+play_lines-requires g c = (search, subst (λ (x : List Line). Numbered [] x) (sym c.as_slice.ensures) (numbered _ c.in_ok-lines.lines c.in_ok-lines.ensures.script))

@@ -1,0 +1,4 @@
+pub mod ReadLaws
+pub mod PlaceLaws
+pub mod WriteLaws
+pub mod ListLaws

@@ -1,0 +1,9 @@
+pub mod Columns
+pub mod Files
+pub mod Heads
+pub mod Listed
+pub mod Names
+pub mod Parts
+pub mod Streams
+pub mod Tables
+pub mod Writing

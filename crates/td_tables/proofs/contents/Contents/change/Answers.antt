@@ -1,6 +1,0 @@
-use Rattle.std.proofs.Common.{◌+◌, ◌∙◌, ap}
-use Rattle.td_tables.proofs.Subtables.{next_absent}
-use Rattle.td_tables.proofs.contents.Contents.change.Goals as goal
-
-pub prepare-requires : goal.prepare-requires
-prepare-requires g c = next_absent c.args.catalog.now.catalog c.self.inside.index.subtables (c.tables.result + 1) (ap (λ k. k.subtables) c.self.view_is ∙ c.requires.subtables) (ap (λ n. n + 1) c.tables.ensures)

@@ -1,7 +1,0 @@
-use Rattle.std.proofs.Common.{◌≡◌}
-use Rattle.std.specs.Prelude.{drop}
-use Rattle.td_tables.specs.Latest.{raised_all}
-use Rattle.td_tables.proofs.latest.raise_all.Given as goal
-
-abbrev pub invariant-loop-put : goal.invariant-loop-put
-invariant-loop-put l = raised_all l.catalog.catalog (drop l.put-index l.puts) l.latest ≡ raised_all l.catalog.catalog l.puts l.initial.latest

@@ -1,0 +1,8 @@
+use Rattle.std.proofs.Common.{◌≡◌, ap, subst}
+use Rattle.std.specs.Prelude.{IfOk}
+use Rattle.td_verdict.specs.Plans.{plan_of}
+use Rattle.td_tables.proofs.tables.Tables.plan.Goals as goal
+
+pub returns-clause-plan : goal.returns-clause-plan
+returns-clause-plan c =
+    subst (λ kept. IfOk c.in_ok-answer.answer (λ plan. plan ≡ plan_of c.args.query.now kept)) (ap (λ h. h.state.catalog) c.self.view_is) c.in_ok-answer.ensures.plan
