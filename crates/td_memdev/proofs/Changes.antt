@@ -1,21 +1,19 @@
 -- What each change of a table of a store in memory makes of its image.
-use Rattle.std.proofs.Common.{◌≡◌, ℕ, ◌+◌, ◌-◌, Bool, true, false, if◌then◌else◌, ◌==◌, List, [], ◌∷◌, ◌++◌, length, take, Option, Some, None, IfSome, IsSome, is_some, is_none, map, inl, slice_get, get_or, slice_set, remove, max, ◌≤◌, arith, refl, sym, ap, ◌∙◌, subst}
-use mathlib.Core.Path.{fun_ext}
+use Rattle.std.proofs.Common.{◌≡◌, ℕ, ◌+◌, ◌-◌, Bool, true, false, List, [], ◌∷◌, ◌++◌, Option, Some, None, IfSome, is_some, is_none, map, inl, get_or, slice_set, remove, arith, refl, sym, ap, ◌∙◌, subst}
 use Rattle.std.proofs.lemmas.Option.{get_or_from_slice_get}
 use Rattle.std.specs.Option.{option_map, IsSomeAnd}
-use Rattle.td_outside.specs.Image.{Log, Image, Doubt, put}
-use Rattle.td_outside.specs.Files.{after_create, after_abandon, GivesUp, after_finish, Finishes, after_open, after_close, after_remove, after_failed_remove, SwapFails}
-use Rattle.td_outside.specs.Logs.{new_log, with_log, after_torn_write, IsTorn, Tears, after_log_create, after_failed_log_create, after_log_drop, after_failed_log_drop}
+use Rattle.td_outside.specs.Image.{Log, Image, put}
+use Rattle.td_outside.specs.Files.{after_create, GivesUp, Finishes, after_open, after_close, after_remove, after_failed_remove, SwapFails}
+use Rattle.td_outside.specs.Logs.{new_log, with_log, after_torn_write, Tears, after_log_create, after_failed_log_create, after_log_drop, after_failed_log_drop}
 use Rattle.td_memdev.specs.Tables.{find, IsTable, IsAt}
 use Rattle.td_memdev.specs.Entries.{with_readers, marked}
 use Rattle.td_memdev.specs.Kept.{Kept, image_of, log_entry, file_entry, log_of, is_fresh, is_gone, bytes_of, is_making, is_lost, readers_of, is_removed, state_bytes, state_making, state_lost, state_readers, state_removed}
 use Rattle.td_memdev.specs.declared.logs.LogEntry.{LogEntry}
 use Rattle.td_memdev.specs.declared.files.FileEntry.{FileEntry}
 use Rattle.td_memdev.specs.declared.files.FileState.{FileState}
-use Rattle.td_memdev.specs.declared.files.MemFile.{MemFile}
 use Rattle.td_memdev.specs.declared.files.FileState.TheVariants.{Making, Lost, Finished}
-use Rattle.td_memdev.proofs.Finding.{find_at, find-set, find-push, find-remove, IsTable-set, IsTable-push, IsTable-remove}
-use Rattle.td_memdev.proofs.Images.{put_of, keep_of, logs_change, files_change, same_image}
+use Rattle.td_memdev.proofs.Finding.{find_at, find-set, find-push, find-remove, IsTable-set, IsTable-remove}
+use Rattle.td_memdev.proofs.Images.{put_of, keep_of, logs_change, files_change}
 
 -- the entry that a place gives
 pub entry_is : {T : Type 0} (number : T → ℕ) (n place : ℕ) (entries : List T) (at : IsAt number n place entries) (x : T) → x ≡ get_or entries place x → x ≡ at.entry
@@ -249,22 +247,22 @@ foreign_image old n making = (
   λ i. record old { making = (sym (put_same n false old.making (sym making))) i; doubt = record old.doubt { strays = (sym (put_same n (old.doubt.strays n) old.doubt.strays refl)) i } },
 )
 
-same_bytes : (k : ℕ) (s : FileState) → state_bytes (with_readers k s) ≡ state_bytes s
+pub same_bytes : (k : ℕ) (s : FileState) → state_bytes (with_readers k s) ≡ state_bytes s
 same_bytes k Making = refl
 same_bytes k Lost = refl
 same_bytes k (Finished file) = refl
 
-same_making : (k : ℕ) (s : FileState) → state_making (with_readers k s) ≡ state_making s
+pub same_making : (k : ℕ) (s : FileState) → state_making (with_readers k s) ≡ state_making s
 same_making k Making = refl
 same_making k Lost = refl
 same_making k (Finished file) = refl
 
-same_lost : (k : ℕ) (s : FileState) → state_lost (with_readers k s) ≡ state_lost s
+pub same_lost : (k : ℕ) (s : FileState) → state_lost (with_readers k s) ≡ state_lost s
 same_lost k Making = refl
 same_lost k Lost = refl
 same_lost k (Finished file) = refl
 
-same_removed : (k : ℕ) (s : FileState) → state_removed (with_readers k s) ≡ state_removed s
+pub same_removed : (k : ℕ) (s : FileState) → state_removed (with_readers k s) ≡ state_removed s
 same_removed k Making = refl
 same_removed k Lost = refl
 same_removed k (Finished file) = refl

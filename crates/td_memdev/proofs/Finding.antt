@@ -1,8 +1,8 @@
 -- What finding, setting, adding and removing do to tables.
-use Rattle.std.proofs.Common.{◌≡◌, ℕ, zero, suc, ◌+◌, Bool, true, false, if◌then◌else◌, ◌==◌, List, [], ◌∷◌, ◌++◌, take, drop, length, Option, Some, None, slice_get, slice_set, remove, unwrap_or, ◌-◌, map, length-append, refl, sym, ap, ◌∙◌, subst, add-one, arith}
+use Rattle.std.proofs.Common.{◌≡◌, ℕ, zero, suc, ◌+◌, ◌≤◌, Bool, true, false, if◌then◌else◌, ◌==◌, List, [], ◌∷◌, ◌++◌, take, length, Option, Some, None, IfSome, IsSome, is_some, slice_get, slice_set, remove, unwrap_or, ◌-◌, map, length-append, refl, sym, ap, ◌∙◌, below_more, arith}
 use Rattle.std.proofs.lemmas.Bool.{eq-eqb, eqb-true, eqb-false, ne_eqb}
 use Rattle.std.specs.Option.{option_map}
-use Rattle.td_memdev.specs.Tables.{find, IsTable, IsAt}
+use Rattle.td_memdev.specs.Tables.{find, IsTable, IsAt, AreTaken}
 
 none_some : {T : Type 0} (x : T) → None ≡ Some x → ⊥
 none_some x h = cc
@@ -137,13 +137,25 @@ map_if : {T U : Type 0} (g : T → U) (b : Bool) (x : T) (r : Option T) (s : Opt
 map_if g true x r s h = refl
 map_if g false x r s h = h
 
-pub find_map : {T : Type 0} (g : ℕ × List ℕ → T) (number : T → ℕ) → ((p : ℕ × List ℕ) → number (g p) ≡ p.0) → (n : ℕ) (pairs : List (ℕ × List ℕ)) → find number n (map g pairs) ≡ option_map g (find (λ p. p.0) n pairs)
-find_map g number same n [] = refl
-find_map g number same n (p ∷ ps) = rw (same p) (map_if g (n == p.0) p (find (λ q. q.0) n ps) (find number n (map g ps)) (find_map g number same n ps))
+pub find_map : {S T : Type 0} (g : S → T) (key : S → ℕ) (number : T → ℕ) → ((p : S) → number (g p) ≡ key p) → (n : ℕ) (list : List S) → find number n (map g list) ≡ option_map g (find key n list)
+find_map g key number same n [] = refl
+find_map g key number same n (p ∷ ps) = rw (same p) (map_if g (n == key p) p (find key n ps) (find number n (map g ps)) (find_map g key number same n ps))
 
-pub IsTable-map : {T : Type 0} (g : ℕ × List ℕ → T) (number : T → ℕ) → ((p : ℕ × List ℕ) → number (g p) ≡ p.0) → (pairs : List (ℕ × List ℕ)) → IsTable (λ p. p.0) pairs → IsTable number (map g pairs)
-IsTable-map g number same [] table = tt
-IsTable-map g number same (p ∷ ps) table = (
-  ap (λ k. find number k (map g ps)) (same p) ∙ find_map g number same p.0 ps ∙ ap (λ r. option_map g r) table.0,
-  IsTable-map g number same ps table.1,
+pub IsTable-map : {S T : Type 0} (g : S → T) (key : S → ℕ) (number : T → ℕ) → ((p : S) → number (g p) ≡ key p) → (list : List S) → IsTable key list → IsTable number (map g list)
+IsTable-map g key number same [] table = tt
+IsTable-map g key number same (p ∷ ps) table = (
+  ap (λ k. find number k (map g ps)) (same p) ∙ find_map g key number same (key p) ps ∙ ap (λ r. option_map g r) table.0,
+  IsTable-map g key number same ps table.1,
 )
+
+some_of : {T : Type 0} (o : Option T) (e : T) → o ≡ Some e → IsSome o
+some_of o e is = ap is_some is
+
+-- the numbers up to one that has an entry too
+pub taken_more : {T : Type 0} (number : T → ℕ) (from to : ℕ) (entries : List T) (place : Option ℕ) → is_some place ≡ true → IfSome place (λ p. IsAt number to p entries) → AreTaken number from to entries → AreTaken number from (to + 1) entries
+taken_more number from to entries None some at taken = absurd (true_false (sym some))
+taken_more number from to entries (Some p) some at taken =
+    λ n start below. below_more (λ m. from ≤ m → IsSome (find number m entries)) to
+    (λ m less begun. taken m begun less)
+    (λ begun. some_of (find number to entries) at.entry (find_at number to p entries at.entry at.there at.number_is at.first))
+    n below start

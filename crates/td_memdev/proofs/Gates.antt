@@ -1,5 +1,5 @@
 -- What a write to a log makes of it.
-use Rattle.std.proofs.Common.{◌≡◌, ℕ, ◌+◌, ◌<◌, List, [], ◌∷◌, length, slice_set, Option, sym, ap, ◌∙◌}
+use Rattle.std.proofs.Common.{◌≡◌, ℕ, ◌+◌, ◌<◌, List, [], ◌∷◌, length, slice_set, Option, ◌∙◌}
 use Rattle.td_outside.specs.Image.{Log}
 use Rattle.td_outside.specs.Logs.{after_write, widened}
 use Rattle.td_memdev.proofs.Pieces.{set_parts}

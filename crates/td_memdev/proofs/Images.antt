@@ -1,18 +1,11 @@
 -- The image of a store in memory after its tables changed.
-use Rattle.std.proofs.Common.{◌≡◌, ℕ, ◌+◌, ◌-◌, Bool, true, false, if◌then◌else◌, ◌==◌, List, [], ◌∷◌, ◌++◌, take, Option, Some, None, slice_get, slice_set, remove, map, refl, sym, ap, ◌∙◌, subst}
+use Rattle.std.proofs.Common.{◌≡◌, ℕ, Bool, true, false, if◌then◌else◌, ◌==◌, List, Option, Some, map, refl, sym, ap, ◌∙◌}
 use mathlib.Core.Path.{fun_ext}
 use Rattle.std.proofs.lemmas.Bool.{eqb-true}
-use Rattle.std.specs.Option.{option_map}
-use Rattle.td_outside.specs.Image.{Log, Image, Doubt, put}
-use Rattle.td_outside.specs.Files.{after_create, after_abandon, after_finish, after_open, after_close, after_remove, after_failed_remove}
-use Rattle.td_outside.specs.Logs.{new_log, with_log, after_log_create, after_failed_log_create, after_log_drop, after_failed_log_drop}
-use Rattle.td_memdev.specs.Tables.{find, IsTable, IsAt}
+use Rattle.td_outside.specs.Image.{Log, put}
 use Rattle.td_memdev.specs.Kept.{Kept, image_of, log_entry, file_entry, log_of, is_fresh, is_gone, bytes_of, is_making, is_lost, readers_of, is_removed}
 use Rattle.td_memdev.specs.declared.logs.LogEntry.{LogEntry}
 use Rattle.td_memdev.specs.declared.files.FileEntry.{FileEntry}
-use Rattle.td_memdev.specs.declared.files.FileState.{FileState}
-use Rattle.td_memdev.specs.declared.files.FileState.TheVariants.{Making, Lost, Finished}
-use Rattle.td_memdev.proofs.Finding.{find_at, find-set, find-push, find-remove}
 
 if_of : {T A : Type 0} (f : T → A) (b : Bool) (x y : T) → f (if b then x else y) ≡ (if b then f x else f y)
 if_of f true x y = refl

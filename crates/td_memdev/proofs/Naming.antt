@@ -1,9 +1,7 @@
 -- The names of the finished files, and a store that is made of parts.
-use Rattle.std.proofs.Common.{◌≡◌, ℕ, suc, zero, ◌+◌, Bool, true, false, if◌then◌else◌, ◌==◌, ◌||◌, List, [], ◌∷◌, ◌++◌, take, map, Option, Some, None, is_some, slice_get, refl, sym, ap, ◌∙◌, subst, add-one, append_assoc}
-use mathlib.Core.Path.{fun_ext}
+use Rattle.std.proofs.Common.{◌≡◌, ℕ, suc, zero, Bool, true, false, if◌then◌else◌, ◌==◌, List, [], ◌∷◌, ◌++◌, take, map, Option, Some, None, is_some, slice_get, refl, sym, ap, ◌∙◌, subst}
 use Rattle.std.proofs.lemmas.Bool.{eq-eqb, eqb-true, eqb-false, ne_eqb}
 use Rattle.std.specs.Option.{option_map}
-use Rattle.td_outside.specs.Image.{Log, Image, no_doubt}
 use Rattle.td_outside.specs.Crash.{stable_log}
 use Rattle.td_outside.specs.Files.{lists, IsOnce, NamesFiles}
 use Rattle.td_memdev.specs.Tables.{find, IsTable}
@@ -11,7 +9,6 @@ use Rattle.td_memdev.specs.Track.{Track}
 use Rattle.td_memdev.specs.Kept.{Kept, image_of, log_of, is_fresh, is_gone, bytes_of, is_making, is_lost, readers_of, is_removed, state_bytes}
 use Rattle.td_memdev.specs.Entries.{numbers_of, stable_entry, finished_entry}
 use Rattle.td_memdev.specs.Parts.{parts_image}
-use Rattle.td_memdev.specs.declared.logs.LogEntry.{LogEntry}
 use Rattle.td_memdev.specs.declared.files.FileEntry.{FileEntry}
 use Rattle.td_memdev.proofs.Finding.{find_map}
 
@@ -105,8 +102,8 @@ removed_part (Some p) = refl
 -- the image of a store that is made of parts
 pub parts_are : (head : Option (List ℕ)) (logs files : List (ℕ × List ℕ)) (made : ℕ) (track : Track) → image_of (record { head = head; heads = []; logs = map stable_entry logs; files = map finished_entry files; made = made; track = track }) ≡ parts_image head logs files
 parts_are head logs files made track =
-    let log : (n : ℕ) → find (λ e. e.number) n (map stable_entry logs) ≡ option_map stable_entry (find (λ p. p.0) n logs) = λ n. find_map stable_entry (λ e. e.number) (λ p. refl) n logs in
-    let file : (n : ℕ) → find (λ e. e.number) n (map finished_entry files) ≡ option_map finished_entry (find (λ p. p.0) n files) = λ n. find_map finished_entry (λ e. e.number) (λ p. refl) n files in
+    let log : (n : ℕ) → find (λ e. e.number) n (map stable_entry logs) ≡ option_map stable_entry (find (λ p. p.0) n logs) = λ n. find_map stable_entry (λ p. p.0) (λ e. e.number) (λ p. refl) n logs in
+    let file : (n : ℕ) → find (λ e. e.number) n (map finished_entry files) ≡ option_map finished_entry (find (λ p. p.0) n files) = λ n. find_map finished_entry (λ p. p.0) (λ e. e.number) (λ p. refl) n files in
     λ i. record {
       head = head;
       logs = λ n. (ap log_of (log n) ∙ log_part (find (λ p. p.0) n logs)) i;

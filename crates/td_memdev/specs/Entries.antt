@@ -1,12 +1,11 @@
 -- Entries of the tables of a store in memory.
-use Rattle.std.specs.Prelude.{◌≡◌, ℕ, Bool, true, false, if◌then◌else◌, List, [], ◌∷◌, length, Option, Some, None, is_some}
+use Rattle.std.specs.Prelude.{ℕ, true, false, if◌then◌else◌, List, [], ◌∷◌, map, Some, is_some}
 use Rattle.td_outside.specs.Crash.{stable_log}
 use Rattle.td_memdev.specs.declared.logs.LogEntry.{LogEntry}
 use Rattle.td_memdev.specs.declared.files.FileEntry.{FileEntry}
 use Rattle.td_memdev.specs.declared.files.FileState.{FileState}
 use Rattle.td_memdev.specs.declared.files.FileState.TheVariants.{Making, Lost, Finished}
-use Rattle.td_memdev.specs.declared.files.MemFile.{MemFile}
-use Rattle.td_memdev.specs.Kept.{state_bytes}
+use Rattle.td_memdev.specs.Kept.{Kept, state_bytes}
 
 -- an entry of a log of these bytes, all of them stable
 abbrev pub stable_entry : ℕ × List ℕ → LogEntry
@@ -21,6 +20,14 @@ abbrev pub with_readers : ℕ → FileState → FileState
 with_readers n Making = Making
 with_readers n Lost = Lost
 with_readers n (Finished file) = Finished (record file { readers = n })
+
+-- an entry without open readers
+abbrev pub closed : FileEntry → FileEntry
+closed entry = record entry { state = with_readers 0 entry.state }
+
+-- the store as its place gives it out: no reader is open, and its count of faults is 0
+abbrev pub as_entered : Kept → Kept
+as_entered kept = record kept { files = map closed kept.files; track = record kept.track { faults = 0 } }
 
 -- a state of which a crash may leave nothing, where it has a finished file
 abbrev pub marked : FileState → FileState

@@ -1,14 +1,12 @@
 -- What contracts see of a store in memory, and the image that it tells.
-use Rattle.std.specs.Prelude.{◌≡◌, ℕ, Bool, true, false, List, [], ◌∷◌, map, Option, Some, None, Result, Ok, Err}
-use Rattle.std.specs.Option.{option_map, option_and_then}
-use Rattle.td_outside.specs.Image.{Log, Image, Doubt}
+use Rattle.std.specs.Prelude.{ℕ, Bool, true, false, List, map, Option, Some, None}
+use Rattle.td_outside.specs.Image.{Log, Image}
 use Rattle.td_memdev.specs.Tables.{find}
 use Rattle.td_memdev.specs.Track.{Track}
 use Rattle.td_memdev.specs.declared.logs.LogEntry.{LogEntry}
 use Rattle.td_memdev.specs.declared.files.FileEntry.{FileEntry}
 use Rattle.td_memdev.specs.declared.files.FileState.{FileState}
 use Rattle.td_memdev.specs.declared.files.FileState.TheVariants.{Making, Lost, Finished}
-use Rattle.td_memdev.specs.declared.files.MemFile.{MemFile}
 
 -- the head, or none; the heads of swaps that failed; logs; files; how many readers and writers it made; its calls
 pub record Kept : Type 0 where
@@ -102,7 +100,3 @@ image_of kept = record {
     removed = λ n. is_removed (file_entry kept.files n);
   };
 }
-
--- the store with its count of faults at 0
-abbrev pub without_faults : Kept → Kept
-without_faults kept = record kept { track = record kept.track { faults = 0 } }

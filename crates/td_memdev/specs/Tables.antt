@@ -1,5 +1,5 @@
 -- Tables: lists of entries, each with a number of its own.
-use Rattle.std.specs.Prelude.{◌≡◌, ℕ, ◌<◌, Bool, true, false, if◌then◌else◌, ◌==◌, List, [], ◌∷◌, length, take, Option, Some, None, slice_get}
+use Rattle.std.specs.Prelude.{◌≡◌, ℕ, ◌<◌, ◌≤◌, if◌then◌else◌, ◌==◌, List, [], ◌∷◌, take, Option, Some, None, IsSome, slice_get}
 
 -- the first entry of a number
 abbrev pub find : {T : Type 0} → (T → ℕ) → ℕ → List T → Option T
@@ -17,3 +17,7 @@ pub record IsAt {T : Type 0} (number : T → ℕ) (n place : ℕ) (entries : Lis
   pub there : slice_get entries place ≡ Some entry
   pub number_is : number entry ≡ n
   pub first : find number n (take place entries) ≡ None
+
+-- each number from one on and below another has an entry
+abbrev pub AreTaken : {T : Type 0} → (T → ℕ) → ℕ → ℕ → List T → Type 0
+AreTaken number from to entries = (n : ℕ) → from ≤ n → n < to → IsSome (find number n entries)

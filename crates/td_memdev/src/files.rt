@@ -2,7 +2,7 @@
 ghost use Rattle.std.specs.Prelude.{◌≡◌, ℕ, map, IfOk};
 ghost use Rattle.std.specs.Option.{option_copied};
 ghost use Rattle.td_memdev.specs.Kept.{state_bytes, state_making, state_readers};
-ghost use Rattle.td_memdev.specs.Entries.{with_readers, marked, numbers_of, finished_entry};
+ghost use Rattle.td_memdev.specs.Entries.{with_readers, closed, marked, numbers_of, finished_entry};
 
 use crate::table::Numbered;
 use std::alloc::Global;
@@ -83,6 +83,15 @@ impl FileEntry {
         if let FileState::Finished(file) = &mut self.state {
             file.removed = true;
         }
+    }
+}
+
+/// Ends all open readers.
+pub fn close_all(files: &mut [FileEntry])
+    ensures { files.new ≡ map closed files.old }
+{
+    for entry in files.iter_mut() {
+        entry.set_readers(0);
     }
 }
 

@@ -3,7 +3,9 @@ ghost use Rattle.std.specs.Prelude.{◌≡◌, ◌≤◌, Bool, true, false, Non
 ghost use Rattle.std.specs.Option.{option_map};
 ghost use Rattle.td_outside.specs.Causes.{HasCause, HasFault, raised};
 ghost use Rattle.td_outside.specs.declared.faults.IoFault.TheVariants as io_fault;
-ghost use Rattle.td_memdev.specs.Kept.{image_of, without_faults};
+ghost use Rattle.td_outside.specs.Image.{at_rest};
+ghost use Rattle.td_memdev.specs.Entries.{as_entered};
+ghost use Rattle.td_memdev.specs.Kept.{image_of};
 ghost use Rattle.td_memdev.specs.Memory.{names, one_more, PlaceAsListed};
 
 use crate::store::MemStore;
@@ -83,25 +85,25 @@ impl Place for MemPlace {
 
     ghost taken = { λ p. p.taken };
 
-    /// Fails exactly where the list names the call. The store's count of faults begins anew.
+    /// Fails exactly where the list names the call. The store's count of faults begins anew, and no reader is open.
     fn enter(&mut self, _alloc: Global, _name: &[u8]) -> Result<MemStore, IoFault>
         requires inside { not (is_some self.old.store) ≡ false }
         ensures out { not (is_some self.new.store) ≡ is_ok result }
-        ensures image { IfOk result (λ dir. Some (image_of dir) ≡ option_map image_of self.old.store) }
+        ensures image { IfOk result (λ dir. Some (image_of dir) ≡ option_map at_rest (option_map image_of self.old.store)) }
         ensures store { IfOk result (λ dir. dir.track.faults ≡ 0) }
         ensures refused { OnErr result (option_map image_of self.new.store ≡ option_map image_of self.old.store) }
         ensures taken { self.new.taken ≡ self.old.taken }
         ensures no_memory { IsErrOf result io_fault.NoMemory → self.new ≡ self.old }
         ensures cause { HasFault self.old.faults self.new.faults result }
         ensures listed { PlaceAsListed self.old self.new (is_err result) }
-        ensures given { IfOk result (λ dir. IfSome self.old.store (λ store. dir ≡ without_faults store)) }
+        ensures given { IfOk result (λ dir. IfSome self.old.store (λ store. dir ≡ as_entered store)) }
     {
         if self.fails() {
             return Err(IoFault::Failed);
         }
         match self.store.take() {
             Some(mut store) => {
-                store.begin_count();
+                store.begin();
                 Ok(store)
             }
             None => unreachable!(),

@@ -3,16 +3,17 @@ ghost use Rattle.std.specs.Prelude.{◌≡◌, ◌+◌, ◌-◌, ◌^◌, ◌<�
 ghost use Rattle.std.specs.Option.{option_map};
 ghost use Rattle.td_outside.specs.Causes.{HasCause, HasFault, TakesOver, raised};
 ghost use Rattle.td_outside.specs.Files.{NamesFiles, IsFinished, IsUnread, IsNew, after_create, GivesUp, Finishes, after_open, after_close, after_remove, after_failed_remove, after_swap, SwapFails};
-ghost use Rattle.td_outside.specs.Image.{Image, Along, Becomes};
+ghost use Rattle.td_outside.specs.Image.{Image, Along, Becomes, at_rest};
 ghost use Rattle.td_outside.specs.Logs.{HasLog, after_write, after_sync, with_log, after_log_create, after_failed_log_create, after_log_drop, after_failed_log_drop, Tears};
 ghost use Rattle.td_outside.specs.declared.faults.IoFault.TheVariants as io_fault;
-ghost use Rattle.td_memdev.specs.Kept.{image_of, without_faults, log_entry, file_entry, log_of, bytes_of, is_making};
+ghost use Rattle.td_memdev.specs.Kept.{image_of, log_entry, file_entry, log_of, bytes_of, is_making};
+ghost use Rattle.td_memdev.specs.Entries.{as_entered};
 ghost use Rattle.td_memdev.specs.Parts.{parts_image};
 ghost use Rattle.td_memdev.specs.Tables.{IsTable, IsAt};
 ghost use Rattle.td_memdev.specs.Track.{IsAsListed, FailsAsListed, is_next_listed, with_faults};
 
 use crate::calls::Calls;
-use crate::files::{FileEntry, FileState, MemFile, entries_of_files, finished_numbers};
+use crate::files::{FileEntry, FileState, MemFile, close_all, entries_of_files, finished_numbers};
 use crate::logs::{LogEntry, MemLog, entries_of_logs};
 use crate::reader::{MemReader, MemWriter};
 use crate::table::{free_from, place_of};
@@ -88,10 +89,12 @@ impl MemStore {
         })
     }
 
-    /// Lets the count of faults begin anew.
-    pub(crate) fn begin_count(&mut self)
-        ensures { self.new ≡ without_faults self.old }
+    /// Begins anew, as a process finds it that enters: no reader is open, and the count of faults is 0.
+    pub(crate) fn begin(&mut self)
+        ensures begun { self.new ≡ as_entered self.old }
+        ensures image { image_of self.new ≡ at_rest (image_of self.old) }
     {
+        close_all(&mut self.files);
         self.calls.forget();
     }
 

@@ -1,6 +1,6 @@
 //! Tables: lists of entries with numbers.
-ghost use Rattle.std.specs.Prelude.{◌≡◌, ◌<◌, ◌^◌, ◌-◌, ℕ, IfSome, IfNone, None, length};
-ghost use Rattle.td_memdev.specs.Tables.{find, IsAt};
+ghost use Rattle.std.specs.Prelude.{◌≡◌, ◌<◌, ◌≤◌, ◌^◌, ◌-◌, ℕ, IfSome, IfNone, None, length};
+ghost use Rattle.td_memdev.specs.Tables.{find, IsAt, AreTaken};
 
 /// An entry with a number.
 pub trait Numbered {
@@ -27,7 +27,9 @@ pub fn place_of<T: Numbered>(entries: &[T], number: u64) -> Option<usize>
 /// A number below 2^64-1 that no entry has, the first from a number on, if there is one.
 pub fn free_from<T: Numbered>(entries: &[T], from: u64) -> Option<u64>
     ensures free { IfSome result (λ n. find T.number n entries.now ≡ None) }
+    ensures first { IfSome result (λ n. (from ≤ n) × AreTaken T.number from n entries.now) }
     ensures small { IfSome result (λ n. n < 2 ^ 64 - 1) }
+    ensures none { IfNone result (AreTaken T.number from (2 ^ 64 - 1) entries.now) }
 {
     for number in from..u64::MAX {
         if place_of(entries, number).is_none() {

@@ -49,3 +49,7 @@ Becomes f before after = Along (λ old new. new ≡ f old) before after
 -- nothing is in doubt
 abbrev pub no_doubt : Doubt
 no_doubt = record { heads = []; fresh = λ n. false; gone = λ n. false; strays = λ n. false; removed = λ n. false }
+
+-- the image with no reader open
+abbrev pub at_rest : Image → Image
+at_rest image = record image { readers = λ n. 0 }

@@ -3,7 +3,7 @@ ghost use Rattle.std.specs.Prelude.{◌≡◌, ℕ, ◌+◌, ◌-◌, ◌^◌, �
 ghost use Rattle.std.specs.Option.{option_map};
 ghost use Rattle.td_outside.specs.Causes.{HasCause, HasFault, TakesOver, raised};
 ghost use Rattle.td_outside.specs.Files.{NamesFiles, IsFinished, IsUnread, IsNew, after_create, after_abandon, GivesUp, Finishes, after_open, after_close, after_remove, after_failed_remove, after_swap, SwapFails, ReadsWithin, ReadsAt};
-ghost use Rattle.td_outside.specs.Image.{Image, Along, Becomes};
+ghost use Rattle.td_outside.specs.Image.{Image, Along, Becomes, at_rest};
 ghost use Rattle.td_outside.specs.Logs.{HasLog, after_write, after_sync, with_log, after_log_create, after_failed_log_create, after_log_drop, after_failed_log_drop, Tears};
 ghost use Rattle.td_outside.specs.declared.faults.IoFault.TheVariants as io_fault;
 
@@ -221,11 +221,12 @@ pub trait Place {
     /// How often the stores failed that it took back.
     ghost taken: { Self → ℕ };
 
-    /// Gives its store out, which has no fault so far and the image of the place. Where it is refused, the store stays in.
+    /// Gives its store out, which has no fault so far and the image of the place with no reader open: a process that enters
+    /// has opened none yet. Where it is refused, the store stays in, and its image is as it was.
     fn enter(&mut self, alloc: Global, name: &[u8]) -> Result<Self::Dir, IoFault>
         requires inside { is_out self.old ≡ false }
         ensures out { is_out self.new ≡ is_ok result }
-        ensures image { IfOk result (λ dir. Self.Dir.told dir ≡ told self.old) }
+        ensures image { IfOk result (λ dir. Self.Dir.told dir ≡ option_map at_rest (told self.old)) }
         ensures store { IfOk result (λ dir. Self.Dir.count dir ≡ 0) }
         ensures refused { OnErr result (told self.new ≡ told self.old) }
         ensures taken { taken self.new ≡ taken self.old }

@@ -1,9 +1,14 @@
 //! Names in a directory of the system.
+ghost use Rattle.std.specs.Prelude.{◌≡◌, ◌++◌, codes, IfOk, string_bytes};
+ghost use Rattle.td_realdev.specs.Names.{numbered};
+
 use std::alloc::Global;
 use std::io;
 
 /// The path of a log or a file in a directory: its letter and its number in decimal.
-pub fn path_of(alloc: Global, dir: &String, letter: char, number: u64) -> io::Result<String> {
+pub fn path_of(alloc: Global, dir: &String, letter: char, number: u64) -> io::Result<String>
+    ensures { IfOk result (λ path. string_bytes path ≡ string_bytes dir.now ++ codes "/" ++ numbered letter number) }
+{
     let path = format!(in alloc; "{dir}/{letter}{number}")?;
     Ok(path)
 }

@@ -1,4 +1,4 @@
-use Rattle.std.proofs.Common.{◌≡◌, ℕ, ◌+◌, Bool, true, false, if◌then◌else◌, List, ◌++◌, ◌∷◌, [], take, Some, is_some, slice_get, refl, sym, ap, ◌∙◌, add-one, subst, append-nil}
+use Rattle.std.proofs.Common.{◌≡◌, ◌+◌, Bool, true, false, if◌then◌else◌, ◌++◌, ◌∷◌, [], take, Some, is_some, slice_get, sym, ap, ◌∙◌, add-one, append-nil}
 use Rattle.std.proofs.lemmas.Option.{slice_get-get_or}
 use Rattle.td_memdev.specs.Kept.{state_bytes}
 use Rattle.td_memdev.specs.Entries.{numbers_of}

@@ -1,4 +1,4 @@
-use Rattle.std.proofs.Common.{◌≡◌, ◌<◌, [], ◌∷◌, length, refl, sym, ap, ◌∙◌, subst}
+use Rattle.std.proofs.Common.{◌<◌, [], ◌∷◌, length, refl, sym, ap, ◌∙◌, subst}
 use Rattle.td_outside.specs.Image.{Log}
 use Rattle.td_outside.specs.Logs.{after_write}
 use Rattle.td_memdev.proofs.Gates.{gate_is}

@@ -12,8 +12,8 @@ pub invariant_of-result : goal.invariant_of-result
 invariant_of-result c =
     let logs : c.in_ok-logs.logs.items ≡ map stable_entry c.args.logs = c.in_ok-logs.ensures ∙ ap (λ ps. map stable_entry ps) c.as_slice.ensures in
     let files : c.in_ok-files.files.items ≡ map finished_entry c.args.files = c.in_ok-files.ensures ∙ ap (λ ps. map finished_entry ps) c.as_slice-2.ensures in (
-      subst (λ (xs : List LogEntry). IsTable (λ e. e.number) xs) (sym logs) (IsTable-map stable_entry (λ e. e.number) (λ p. refl) c.args.logs c.requires.logs),
-      subst (λ (xs : List FileEntry). IsTable (λ e. e.number) xs) (sym files) (IsTable-map finished_entry (λ e. e.number) (λ p. refl) c.args.files c.requires.files),
+      subst (λ (xs : List LogEntry). IsTable (λ e. e.number) xs) (sym logs) (IsTable-map stable_entry (λ p. p.0) (λ e. e.number) (λ p. refl) c.args.logs c.requires.logs),
+      subst (λ (xs : List FileEntry). IsTable (λ e. e.number) xs) (sym files) (IsTable-map finished_entry (λ p. p.0) (λ e. e.number) (λ p. refl) c.args.files c.requires.files),
     )
 
 pub returns-clause-image : goal.returns-clause-image

@@ -1,8 +1,6 @@
-use Rattle.std.proofs.Common.{◌≡◌, ◌∙◌, ap, subst}
+use Rattle.std.proofs.Common.{◌∙◌, ap, subst}
 use Rattle.td_memdev.specs.Kept.{Kept, image_of}
 use Rattle.td_memdev.specs.Entries.{numbers_of}
-use Rattle.td_memdev.specs.Tables.{IsTable}
-use Rattle.td_memdev.specs.declared.files.FileEntry.{FileEntry}
 use Rattle.td_outside.specs.Files.{NamesFiles}
 use Rattle.td_memdev.specs.contracts.store.MemStore.{the_view}
 use Rattle.td_memdev.proofs.Naming.{names_are}
