@@ -1,3 +1,13 @@
 pub mod Sums
 pub mod Replaying
 pub mod Standing
+pub mod Items
+pub mod BothLogs
+pub mod Settling
+pub mod Covering
+pub mod Histories
+pub mod Written
+pub mod Points
+pub mod Entering
+pub mod Readings
+pub mod Pinning

@@ -1,13 +1,12 @@
 -- What items make of a state, one after another.
-use Rattle.std.proofs.Common.{◌≡◌, ℕ, suc, ◌+◌, ◌<◌, ◌≤◌, Bool, true, false, List, [], ◌∷◌, ◌++◌, length, Option, Some, None, refl, sym, ap, subst, ◌∙◌, arith}
+use Rattle.std.proofs.Common.{◌≡◌, ℕ, ◌+◌, ◌≤◌, false, List, [], ◌∷◌, ◌++◌, length, Some, None, refl, sym, ap, subst, ◌∙◌}
 use Rattle.td_model.specs.declared.history.Put.{Put}
 use Rattle.td_model.specs.declared.history.What.{What}
 use Rattle.td_model.specs.declared.history.What.TheVariants as what
-use Rattle.td_model.specs.declared.history.Entry.{Entry}
 use Rattle.td_model.specs.declared.history.Verdict.TheVariants.{Accept}
 use Rattle.td_model.specs.declared.language.Stmt.{Stmt}
 use Rattle.td_model.specs.Catalog.{table_at}
-use Rattle.td_model.specs.State.{State, empty_state, row_put, latest_raised, parent_of, put_one, put_all, effect, step}
+use Rattle.td_model.specs.State.{State, row_put, latest_raised, parent_of, put_one, put_all, effect, step}
 use Rattle.td_model.proofs.Steps.{step_version, step_moment}
 use Rattle.td_parse.specs.Statements.{IsAnswer}
 use Rattle.td_parse.proofs.OneAnswer.{one_answer}

@@ -1,5 +1,5 @@
 -- What an image stands for, and where it breaks.
-use Rattle.std.proofs.Common.{◌≡◌, ◌⊎◌, inl, inr, ℕ, ◌+◌, ◌<◌, ◌≤◌, List, [], ◌∷◌, ◌++◌, length, Option, Some, None, refl, sym, ap, subst, ◌∙◌, append-nil, arith}
+use Rattle.std.proofs.Common.{◌≡◌, ◌⊎◌, inl, inr, ℕ, ◌+◌, List, [], ◌∷◌, ◌++◌, length, Option, Some, None, refl, sym, ap, subst, ◌∙◌, append-nil}
 use Rattle.std.specs.Prelude.{◌≢◌}
 use Rattle.td_model.specs.State.{State, empty_state}
 use Rattle.td_outside.specs.Image.{Log, Image}
@@ -10,9 +10,50 @@ use Rattle.td_core.specs.declared.causes.FileId.{FileId}
 use Rattle.td_core.specs.declared.causes.FileId.TheVariants as files
 use Rattle.td_core.specs.Replay.{IsNext, Replays}
 use Rattle.td_core.specs.Stands.{FIRST_LOG, HasItems, Stands}
+use Rattle.td_core.specs.CoreState.{LogPlace, AtGate, IsWritten, IsActive}
 use Rattle.td_core.specs.Breaks.{CannotFollow, Refuses, AreWhole, BreaksOff, LogBreaksOff, HasOpenGate, SecondBreaks, BreaksFirst}
 use Rattle.td_core.proofs.Sums.{early_late}
 use Rattle.td_core.proofs.Replaying.{one_next, one_replay, replays_split}
+
+-- ---- the log that is written
+
+-- a log whose closed gate is known has its items
+pub gate_items : (first : ℕ) (items : List LogItem) (gate : ℕ) (o : Option Log) → AtGate first items gate o → HasItems first items o
+gate_items first items gate None p = p.0
+gate_items first items gate (Some log) p = p.log_at.log
+
+no_items : (first : ℕ) (o : Option Log) → o ≡ None → HasItems first [] o
+no_items first None e = refl
+no_items first (Some log) e = absurd cc
+
+-- an image whose written log has these items, behind those of the log before it, stands for what they make
+pub items_stand : (image : Image) (number : ℕ) (older own : List LogItem) (s : State) → image.head ≡ None → IsWritten image number older → HasItems (1 + length older) own (image.logs number) → Replays empty_state (older ++ own) s → Stands image s
+items_stand image number older own s head (inl w) log replays =
+    let here : HasItems (1 + length older) own (image.logs FIRST_LOG) = subst (λ (n : ℕ). HasItems (1 + length older) own (image.logs n)) w.0 log in
+    record {
+      head = head;
+      older = own;
+      newer = [];
+      first_log = subst (λ (l : List LogItem). HasItems (1 + length l) own (image.logs FIRST_LOG)) w.1 here;
+      second_log = no_items (1 + length own) (image.logs (FIRST_LOG + 1)) w.2;
+      in_order = λ some. absurd (some refl);
+      replays = subst (λ (l : List LogItem). Replays empty_state l s) (ap (λ (l : List LogItem). l ++ own) w.1 ∙ sym (append-nil own)) replays;
+    }
+items_stand image number older own s head (inr w) log replays = record {
+  head = head;
+  older = older;
+  newer = own;
+  first_log = w.2;
+  second_log = subst (λ (n : ℕ). HasItems (1 + length older) own (image.logs n)) w.0 log;
+  in_order = λ _. w.1;
+  replays = replays;
+}
+
+-- the image of a store stands for the state by the log that is written
+pub active_stands : (image : Image) (place : LogPlace) (s : State) → IsActive image place s → Stands image s
+active_stands image place s a =
+    let items = gate_items place.first a.own place.gate (image.logs place.number) a.log in
+    items_stand image place.number a.older a.own s a.head a.which (subst (λ (n : ℕ). HasItems n a.own (image.logs place.number)) a.first items) a.replays
 
 -- ---- one state
 

@@ -1,6 +1,6 @@
 -- Sums and bounds of plain numbers, apart from the states that they are numbers of.
-use Rattle.std.proofs.Common.{◌≡◌, ℕ, zero, suc, ◌+◌, ◌^◌, ◌<◌, ◌≤◌, arith}
-use Rattle.td_limits.specs.declared.limits.TheConstants.{LAST_VERSION, LAST_TIMESTAMP}
+use Rattle.std.proofs.Common.{◌≡◌, ℕ, suc, ◌+◌, ◌^◌, ◌<◌, ◌≤◌, arith}
+use Rattle.td_limits.specs.declared.limits.TheConstants.{LAST_VERSION}
 
 pub early_late : (a b : ℕ) → a < b → b ≤ a → ⊥
 early_late a b early late = absurd (omega arith)

@@ -1,3 +1,10 @@
 pub mod Replay
 pub mod Stands
 pub mod Breaks
+pub mod CoreState
+pub mod Opening
+pub mod Covers
+pub mod Submits
+pub mod Writing
+pub mod Carrying
+pub mod Pins

@@ -1,5 +1,5 @@
 -- The state that the image of a store stands for.
-use Rattle.std.specs.Prelude.{◌≡◌, ◌≢◌, ℕ, ◌+◌, List, [], ◌∷◌, ◌++◌, length, Option, Some, None}
+use Rattle.std.specs.Prelude.{◌≡◌, ◌≢◌, ℕ, ◌+◌, List, [], ◌++◌, length, Option, Some, None}
 use Rattle.td_model.specs.State.{State, empty_state}
 use Rattle.td_outside.specs.Image.{Log, Image}
 use Rattle.td_wal.specs.declared.item.LogItem.{LogItem}

@@ -4,7 +4,8 @@
 //! no case. `settings` has the settings, `cases` the notation of long scripts, `playing` the devices and the call.
 //! Below its head a case shows the report as it was written, and a line with the exit number, how many bytes were
 //! written, and the line on standard error, if there is one. The reports beside which these are compared were worked
-//! out by hand. It stands on `td_top`, whose calls it asks, on `td_memdev` for the devices, and on `td_cases`.
+//! out by hand. A case may begin with a store of its own, or with the one that the case before left. It stands on `td_top`, whose
+//! calls it asks, on `td_core` for the files that a status names, on `td_memdev` for the devices, and on `td_cases`.
 #![tactic(auto)]
 
 mod cases;
@@ -19,33 +20,36 @@ use std::sync::Wait;
 use std::thread::Threads;
 use td_cases::{CaseFault, Out};
 use td_layer::Seq;
+use td_memdev::MemStore;
 
 fn main(rt: HostRuntime) -> Result<(), CaseFault> {
     let alloc = rt.alloc();
     let input = BufReader::new(alloc, rt.reader())?;
     let mut output = BufWriter::new(alloc, io::writer(&rt))?;
     let mut open = None;
+    let mut left = None;
     for line in input.lines(alloc) {
         let line = line?;
         if let Some(head) = line.as_str().strip_prefix("==== ") {
-            let shown = case_shown(&rt, alloc, open.take())?;
+            let shown = case_shown(&rt, alloc, open.take(), &mut left)?;
             output.write_all(shown.as_slice())?;
             open = Some(Case::new(alloc, head)?);
         } else if let Some(case) = &mut open {
             case.add_line(alloc, line.as_str())?;
         }
     }
-    let shown = case_shown(&rt, alloc, open)?;
+    let shown = case_shown(&rt, alloc, open, &mut left)?;
     output.write_all(shown.as_slice())?;
     output.flush()?;
     Ok(())
 }
 
-// What a case shows, and nothing where there is none.
+// What a case shows, and nothing where there is none. The store that it leaves is kept for the next one.
 fn case_shown<R: Threads + Wait + Sync>(
     rt: &R,
     alloc: Global,
     case: Option<Case>,
+    left: &mut Option<MemStore>,
 ) -> Result<Seq<u8>, CaseFault> {
     let mut out = Out::new(alloc);
     if let Some(case) = case {
@@ -55,7 +59,8 @@ fn case_shown<R: Threads + Wait + Sync>(
         if case.settings.lists_statuses {
             statuses::push_statuses(&mut out, alloc)?;
         } else {
-            playing::push_play(&mut out, rt, alloc, case)?;
+            let store = playing::push_play(&mut out, rt, alloc, case, left.take())?;
+            *left = Some(store);
         }
     }
     Ok(out.text()?)

@@ -1,5 +1,6 @@
 //! A case is played.
-ghost use Rattle.std.specs.Prelude.{◌≡◌, ◌<◌, ◌≤◌, All, IsTrue, length};
+ghost use Rattle.std.specs.Prelude.{◌≡◌, ◌<◌, ◌≤◌, All, IfOk, IsTrue, is_some, length, true};
+ghost use Rattle.td_memdev.specs.Tables.{IsTable};
 
 use crate::cases::Case;
 use crate::settings::Settings;
@@ -13,15 +14,19 @@ use td_limits::LAST_TIMESTAMP;
 use td_memdev::{FreeGate, MemPlace, MemSink, MemSource, MemStore, Ticks};
 use td_top::{Status, play, vnode};
 
-/// Plays a case, and adds the report and the line of its status.
+/// Plays a case, adds the report and the line of its status, and gives the store as it was left. It is played on the store that is
+/// given, if the case wants that.
 pub(crate) fn push_play<R: Threads + Wait + Sync>(
     out: &mut Out,
     rt: &R,
     alloc: Global,
     case: Case,
-) -> Result<(), CaseFault> {
+    left: Option<MemStore>,
+) -> Result<MemStore, CaseFault> {
     let script = Seq::of_bytes(alloc, case.bytes())?;
     let settings = &case.settings;
+    let store = store_of(alloc, settings, left)?;
+    let mut place = MemPlace::new(store, one_call(alloc, settings.fail_place)?);
     let input = source(alloc, settings, script)?;
     let mut sink = MemSink::new(
         alloc,
@@ -29,9 +34,57 @@ pub(crate) fn push_play<R: Threads + Wait + Sync>(
         settings.most_out.max(1),
         one_call(alloc, settings.fail_out)?,
     )?;
-    let status = play_on(rt, alloc, settings, input, &mut sink)?;
+    let status = play_on(rt, alloc, settings, input, &mut sink, &mut place)?;
     push_report(out, sink.bytes());
-    push_status(out, alloc, status, sink.bytes().len())
+    push_status(out, alloc, status, sink.bytes().len())?;
+    Ok(place.into_store())
+}
+
+// The store on which a case is played: the one that the case before left, or a new one.
+fn store_of(
+    alloc: Global,
+    settings: &Settings,
+    left: Option<MemStore>,
+) -> Result<MemStore, CaseFault> {
+    match left {
+        Some(store) if settings.is_again => Ok(store),
+        _ => new_store(alloc, settings),
+    }
+}
+
+// A store of the head and the first log that a case gives.
+fn new_store(alloc: Global, settings: &Settings) -> Result<MemStore, CaseFault> {
+    let fails = fails_of(alloc, settings.fail_store.as_slice())?;
+    let head = copied(&settings.head)?;
+    let logs = logs_of(alloc, copied(&settings.log)?)?;
+    Ok(MemStore::of_parts(alloc, head, logs, Seq::new(alloc), fails)?)
+}
+
+fn copied(bytes: &Option<Seq<u8>>) -> Result<Option<Seq<u8>>, NoMem> {
+    match bytes {
+        None => Ok(None),
+        Some(bytes) => Ok(Some(bytes.copy()?)),
+    }
+}
+
+// The first log, if it is there.
+fn logs_of(alloc: Global, log: Option<Seq<u8>>) -> Result<Seq<(u64, Seq<u8>)>, NoMem>
+    ensures { IfOk result (λ logs. IsTable (λ pair. pair.0) logs) }
+{
+    let mut logs = Seq::new(alloc);
+    if let Some(log) = log {
+        logs.add((1, log))?;
+    }
+    Ok(logs)
+}
+
+// The calls of the store itself that fail.
+fn fails_of(alloc: Global, calls: &[u64]) -> Result<Seq<(u64, u64)>, NoMem> {
+    let mut fails = Seq::new(alloc);
+    for call in calls {
+        fails.add((0, *call))?;
+    }
+    Ok(fails)
 }
 
 fn one_call(alloc: Global, call: u64) -> Result<Seq<u64>, NoMem> {
@@ -50,19 +103,21 @@ fn play_on<R: Threads + Wait + Sync>(
     settings: &Settings,
     mut input: MemSource,
     sink: &mut MemSink,
-) -> Result<Status, CaseFault> {
+    place: &mut MemPlace,
+) -> Result<Status, CaseFault>
+    requires inside { is_some place.old.store ≡ true }
+    ensures inside { is_some place.new.store ≡ true }
+{
     let clock = clock_of(alloc, settings.clock.as_slice())?;
-    let store = MemStore::new(alloc, Seq::new(alloc));
-    let mut place = MemPlace::new(store, Seq::new(alloc));
     Ok(match &settings.words {
-        None => play(alloc, b"d", &mut input, sink, &mut place, clock),
+        None => play(alloc, b"d", &mut input, sink, place, clock),
         Some(words) => vnode(
             rt,
             alloc,
             words.as_slice(),
             &mut input,
             sink,
-            &mut place,
+            place,
             clock,
             &FreeGate,
         ),

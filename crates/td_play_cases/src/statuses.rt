@@ -1,6 +1,7 @@
 //! How a run ended.
 use std::alloc::Global;
 use td_cases::{CaseFault, Out};
+use td_core::FileId;
 use td_top::Status;
 
 /// Adds the exit number of a status, how many bytes were written, and the line on standard error, if there is one.
@@ -38,6 +39,19 @@ pub(crate) fn push_statuses(out: &mut Out, alloc: Global) -> Result<(), CaseFaul
         Status::TooLarge,
         Status::InputFault,
         Status::OutputFault,
+        Status::StoreFault,
+        Status::NotThisStore {
+            file: FileId::Head,
+            at: 0,
+        },
+        Status::NotThisStore {
+            file: FileId::Log(1),
+            at: 30,
+        },
+        Status::NotThisStore {
+            file: FileId::File(7),
+            at: 32,
+        },
     ];
     for status in &all {
         out.push(b"exit ");

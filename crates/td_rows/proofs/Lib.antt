@@ -1,5 +1,4 @@
-pub mod Undone
+pub mod Puts
 pub mod InOrder
-pub mod Kept
 pub mod Ranges
 pub mod Walked

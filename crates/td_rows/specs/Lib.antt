@@ -1,4 +1,2 @@
 pub mod Puts
 pub mod Laid
-pub mod Before
-pub mod Lent

@@ -1,7 +1,6 @@
 //! Rows of a range, lent one after another.
 ghost use Rattle.std.specs.Iterator.{YieldsFirstBy, item_count};
 
-use std::collections::btree_map;
 use std::marker::Model;
 use td_layer::{Key, Row};
 
@@ -9,23 +8,15 @@ use td_layer::{Key, Row};
 /// that are left. It takes no memory.
 #[derive(Drop)]
 pub struct RowsIn<'a> {
-    pub(crate) rows: Lent<'a>,
-}
-
-/// What lends the rows.
-#[derive(Drop)]
-pub(crate) enum Lent<'a> {
-    Map(btree_map::Range<'a, Key, Row>),
-    Tree(td_memtree::Range<'a, Row>),
+    pub(crate) rows: td_memtree::Range<'a, Row>,
 }
 
 impl<'a> Model for RowsIn<'a> {
     ghost use Rattle.td_model.specs.State.{Rows};
-    ghost use Rattle.td_rows.specs.Lent.{rows_left};
 
     ghost Value = { Rows };
 
-    ghost view = { λ r. rows_left r.rows };
+    ghost view = { λ r. r.rows };
 }
 
 impl<'a> Iterator for RowsIn<'a> {
@@ -36,12 +27,6 @@ impl<'a> Iterator for RowsIn<'a> {
     ghost remaining = { item_count (λ left. left) };
 
     fn next(&mut self) -> Option<(Key, &'a Row)> {
-        match &mut self.rows {
-            Lent::Map(rows) => match rows.next() {
-                None => None,
-                Some((key, row)) => Some((*key, row)),
-            },
-            Lent::Tree(rows) => rows.next(),
-        }
+        self.rows.next()
     }
 }

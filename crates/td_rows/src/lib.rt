@@ -4,22 +4,18 @@
 //! leaves the old one as it was, so whoever reads the old one goes on undisturbed. Puts lay their cells over the rows of their
 //! keys, one after another; a cut and the retention edge leave out the rows that they name and no others.
 //!
-//! [`OrderedRows`] keeps rows in an ordered map that is changed in place. Where memory fails at one of several puts, those before
-//! it are undone, so that all rows are as they were; cuts take no memory. [`RowMap`] is what a caller needs of it.
+//! [`RowsByKey`] is what a reader needs of it: the rows of a range are lent in the order of their timestamps, and none
+//! is copied.
 //!
-//! [`RowsByKey`] is what a reader needs of either: the rows of a range are lent in the order of their timestamps, and none is copied.
-//!
-//! Both stand in until rows lie in a memtable and in files. It stands on `td_model` for the definitions (`State`), on `td_memtree`
-//! for the tree, and on `td_layer` for the types.
+//! The crate stands in until rows lie in a memtable and in files. It stands on `td_model` for the definitions
+//! (`State`), on `td_memtree` for the tree, and on `td_layer` for the types.
 #![tactic(auto)]
 
 mod lay;
 mod lent;
-mod ordered;
 mod rows;
 mod tree;
 
 pub use lent::RowsIn;
-pub use ordered::OrderedRows;
-pub use rows::{RowMap, RowsByKey};
+pub use rows::RowsByKey;
 pub use tree::RowTree;

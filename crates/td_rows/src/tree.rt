@@ -4,7 +4,7 @@ ghost use Rattle.td_model.specs.State.{is_cut};
 ghost use Rattle.td_rows.specs.Puts.{row_after, rows_after};
 
 use crate::lay::lay;
-use crate::lent::{Lent, RowsIn};
+use crate::lent::RowsIn;
 use crate::rows::RowsByKey;
 use std::alloc::Global;
 use std::marker::Model;
@@ -122,7 +122,7 @@ impl RowsByKey for RowTree {
         let first = Key { table, ts: lo };
         let last = Key { table, ts: hi };
         RowsIn {
-            rows: Lent::Tree(self.tree.range(first, last)),
+            rows: self.tree.range(first, last),
         }
     }
 }

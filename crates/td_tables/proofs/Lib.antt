@@ -1,5 +1,3 @@
-pub mod Answered
 pub mod Subtables
 pub mod Parts
 pub mod Steps
-pub mod Turns

@@ -6,10 +6,7 @@
 //! entry makes of it. [`Tables::stop`] takes a halt in. [`Tables::share_rows`] gives the rows of the state, which later entries leave
 //! as they are. The state is sound at all times ([`Tables::is_sound`]).
 //!
-//! [`Tables::turn`] does all of a statement's turn: the reply, the journal's line and the next state are those that the verdict
-//! gives, or there was no memory, and then the state stays as it was.
-//!
-//! It stands on `td_told` for the definitions, on `td_bind` for verdicts and plans, on `td_answer` for answers, on `td_catalog`,
+//! It stands on `td_told` for the definitions, on `td_bind` for verdicts and plans, on `td_fields` for headers, on `td_catalog`,
 //! `td_tagidx` and `td_rows` for what it keeps, and on `td_model` and `td_layer` for the types.
 #![tactic(auto)]
 
@@ -17,8 +14,6 @@ mod contents;
 mod latest;
 mod prepared;
 mod tables;
-mod turn;
 
 pub use prepared::Prepared;
 pub use tables::Tables;
-pub use turn::Turn;

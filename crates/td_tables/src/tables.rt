@@ -7,7 +7,7 @@ ghost use Rattle.td_catalog.specs.Kept.{change_of, IsReadyFor};
 ghost use Rattle.td_verdict.specs.Sound.{IsSound, IsSoundPlan, has_now};
 ghost use Rattle.td_verdict.specs.Queries.{query_verdict};
 ghost use Rattle.td_verdict.specs.Plans.{plan_of};
-ghost use Rattle.td_verdict.specs.Answers.{header, answer};
+ghost use Rattle.td_verdict.specs.Answers.{header};
 ghost use Rattle.td_bind.specs.Answers.{verdict_of, query_verdict_of};
 ghost use Rattle.td_told.specs.Journal.{halt_at};
 ghost use Rattle.td_told.specs.Verdict.{reads_clock, closed_cause, entry_verdict, verdict};
@@ -18,11 +18,10 @@ use crate::contents::{Contents, Part};
 use crate::prepared::Prepared;
 use std::alloc::Global;
 use std::marker::Model;
-use td_answer::answer;
 use td_bind::{bind_query, bind_write};
 use td_catalog::{Catalog, Change};
 use td_fields::header;
-use td_layer::{Cell, Copied, Name, NoMem, Seq};
+use td_layer::{Copied, Name, NoMem, Seq};
 use td_limits::{LAST_TIMESTAMP, LAST_VERSION};
 use td_model::{Cause, Entry, Plan, Query, Stmt, What};
 use td_rows::RowTree;
@@ -227,15 +226,6 @@ impl Tables {
     {
         let names = header(self.alloc, plan)?;
         Ok(names)
-    }
-
-    /// The whole answer of a plan.
-    pub fn answer(&self, plan: &Plan) -> Result<Seq<Seq<Cell>>, NoMem>
-        ensures { (q : Query) → plan.now ≡ plan_of q self.now.state.catalog
-            → IfOk result (λ rows. rows ≡ answer q self.now.state) }
-    {
-        let rows = answer(self.alloc, plan, self.contents.rows(), 0, u64::MAX)?;
-        Ok(rows)
     }
 
     /// The rows of the state, of the same nodes, which later entries leave as they are.

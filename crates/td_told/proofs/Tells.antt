@@ -22,7 +22,7 @@ use Rattle.td_told.specs.Numbers.{Replied, Number, of_entry, of_halt, of_state, 
 use Rattle.td_told.specs.Journal.{RunsOn, IsHistory, StandsFor, halt_at, entry_of, version_of, IsAccepted, AreAccepted, listed, with_version, accepted, is_halt_mark, halts_of, halts_named, with_halt}
 use Rattle.td_told.specs.Replies.{Entered, Halted, JudgedAt, IsPrefix, Answers, EachAnswers, reply_line, is_query}
 use Rattle.td_told.specs.Told.{ToldInOrder}
-use Rattle.td_told.specs.Turn.{by_verdict, starved, halted, clock_reads, reply_of, accepted_reply, state_then, line_then, as_list, line_at, halt_line, entry_at, Judged, Accepts}
+use Rattle.td_told.specs.Turn.{by_verdict, starved, halted, clock_reads, reply_of, accepted_reply, state_then, line_then, entry_then, as_list, line_at, halt_line, entry_at, Judged, Accepts}
 use Rattle.td_told.proofs.Plays.{Plays, MayBe, asked_of, none_listed}
 use Rattle.td_told.proofs.Orders.{session_numbers, phase_numbers}
 use Rattle.td_told.proofs.Counts.{Unseen, unseen_more, statement_here, RisesAfter, rises_with, rises_without, rises_beside}
@@ -152,33 +152,31 @@ few_halts past script (j ∷ js) (e ∷ h) history = elim j.mark as (λ k. Stand
   | mark.Step stream upto moment ↦ λ stands. absurd stands
 ] history.1
 
--- The rest of a run, told from where it begins.
-record Outcome (P : ℕ → ℕ → Type 0) (b : State) (front : List Asked) (ps : List Replied) (h0 : List Entry) (j0 : List JournalLine) (s : State) (older : List State) (c : ℕ) (js : List JournalLine) : Type 0 where
-  entries : List Entry
+-- The rest of a run, told from where it begins: its entries are these.
+record Outcome (P : ℕ → ℕ → Type 0) (b : State) (front : List Asked) (ps : List Replied) (h0 : List Entry) (j0 : List JournalLine) (s : State) (older : List State) (c : ℕ) (js : List JournalLine) (entries : List Entry) : Type 0 where
   history : IsHistory (s ∷ older) (front ++ asked_of ps) js entries
   moments : Moments P (c + 1) entries
   halts_last : HaltsLast entries
   answers : EachAnswers b (h0 ++ entries) (j0 ++ js) [] ps
 
-module _ (P : ℕ → ℕ → Type 0) (b s : State) (older : List State) (front : List Asked) (p : Replied) (ps : List Replied) (h0 : List Entry) (j0 : List JournalLine) (c m : ℕ) (js rest : List JournalLine) (begins : Begins b s older h0 j0) where
+module _ (P : ℕ → ℕ → Type 0) (b s : State) (older : List State) (front : List Asked) (p : Replied) (ps : List Replied) (h0 : List Entry) (j0 : List JournalLine) (c m : ℕ) (js rest : List JournalLine) (all more : List Entry) (begins : Begins b s older h0 j0) where
   -- a turn without an entry
-  kept : js ≡ rest → ((h : List Entry) → Answers b (h0 ++ h) (j0 ++ rest) [] p.asked p.reply) → Outcome P b (front ++ p.asked ∷ []) ps h0 j0 s older (c + clock_reads p.asked.stmt) rest → Outcome P b front (p ∷ ps) h0 j0 s older c js
-  kept lines answers later =
-      let told : Outcome P b front (p ∷ ps) h0 j0 s older c rest = record {
-        entries = later.entries;
-        history = subst (λ x. IsHistory (s ∷ older) x rest later.entries) (append_assoc front (p.asked ∷ []) (asked_of ps)) later.history;
-        moments = moments_later P (c + 1) (c + clock_reads p.asked.stmt + 1) later.entries (omega arith) later.moments;
+  kept : js ≡ rest → all ≡ more → ((h : List Entry) → Answers b (h0 ++ h) (j0 ++ rest) [] p.asked p.reply) → Outcome P b (front ++ p.asked ∷ []) ps h0 j0 s older (c + clock_reads p.asked.stmt) rest more → Outcome P b front (p ∷ ps) h0 j0 s older c js all
+  kept lines entries answers later =
+      let told : Outcome P b front (p ∷ ps) h0 j0 s older c rest more = record {
+        history = subst (λ x. IsHistory (s ∷ older) x rest more) (append_assoc front (p.asked ∷ []) (asked_of ps)) later.history;
+        moments = moments_later P (c + 1) (c + clock_reads p.asked.stmt + 1) more (omega arith) later.moments;
         halts_last = later.halts_last;
-        answers = (answers later.entries, later.answers);
+        answers = (answers more, later.answers);
       } in
-      subst (λ y. Outcome P b front (p ∷ ps) h0 j0 s older c y) (sym lines) told
+      subst (λ y. Outcome P b front (p ∷ ps) h0 j0 s older c js y) (sym entries) (subst (λ y. Outcome P b front (p ∷ ps) h0 j0 s older c y more) (sym lines) told)
 
   -- a turn with an entry
-  entered : (w : What) (rows : ℕ) → p.asked.ordinal ≡ count_of p.asked.session front + 1 → Unseen front → verdict p.asked.stmt s [] m ≡ Accept w rows → Fits p.asked.stmt (Accept w rows) → MayBe P s (c + clock_reads p.asked.stmt) m → p.reply ≡ accepted_reply w (s.version + 1) rows → js ≡ line_at (s.version + 1) p.asked.session p.asked.ordinal m ∷ rest
-      → Outcome P b (front ++ p.asked ∷ []) ps (h0 ++ entry_at p.asked.session p.asked.ordinal m w ∷ []) (j0 ++ line_at (s.version + 1) p.asked.session p.asked.ordinal m ∷ []) (step (s ∷ []) (entry_at p.asked.session p.asked.ordinal m w)) (s ∷ older) (c + clock_reads p.asked.stmt) rest → Outcome P b front (p ∷ ps) h0 j0 s older c js
-  entered w rows counts unseen e fit ok reply lines later =
+  entered : (w : What) (rows : ℕ) → p.asked.ordinal ≡ count_of p.asked.session front + 1 → Unseen front → verdict p.asked.stmt s [] m ≡ Accept w rows → Fits p.asked.stmt (Accept w rows) → MayBe P s (c + clock_reads p.asked.stmt) m → p.reply ≡ accepted_reply w (s.version + 1) rows → js ≡ line_at (s.version + 1) p.asked.session p.asked.ordinal m ∷ rest → all ≡ entry_at p.asked.session p.asked.ordinal m w ∷ more
+      → Outcome P b (front ++ p.asked ∷ []) ps (h0 ++ entry_at p.asked.session p.asked.ordinal m w ∷ []) (j0 ++ line_at (s.version + 1) p.asked.session p.asked.ordinal m ∷ []) (step (s ∷ []) (entry_at p.asked.session p.asked.ordinal m w)) (s ∷ older) (c + clock_reads p.asked.stmt) rest more → Outcome P b front (p ∷ ps) h0 j0 s older c js all
+  entered w rows counts unseen e fit ok reply lines entries later =
       let a = p.asked in
-      let h = later.entries in
+      let h = more in
       let entry = entry_at a.session a.ordinal m w in
       let line = line_at (s.version + 1) a.session a.ordinal m in
       let named : entry_of s (front ++ a ∷ asked_of ps) line ≡ Some entry = rw (statement_here front (asked_of ps) a counts unseen, e) refl in
@@ -188,35 +186,33 @@ module _ (P : ℕ → ℕ → Type 0) (b s : State) (older : List State) (front 
       let each' = subst (λ x. EachAnswers b (h0 ++ entry ∷ h) x [] ps) (append_assoc j0 (line ∷ []) rest) each in
       let one : c + clock_reads a.stmt ≡ c + 1 = omega (arith, reads_one a.stmt w rows fit) in
       let answers = accepted_here b s older h0 j0 begins a w rows (h0 ++ entry ∷ h) (j0 ++ line ∷ rest) fit.0 (entered_here b s older h0 j0 begins a w rows m (entry ∷ h) rest e) in
-      let told : Outcome P b front (p ∷ ps) h0 j0 s older c (line ∷ rest) = record {
-        entries = entry ∷ h;
+      let told : Outcome P b front (p ∷ ps) h0 j0 s older c (line ∷ rest) (entry ∷ h) = record {
         history = (ok.0, named, history);
         moments = moments_more P (c + 1) entry h (subst (λ x. P x m) one ok.2) (subst (λ x. Moments P (x + 1) h) one later.moments);
         halts_last = last_more entry h (no_halt a.stmt w fit.0) later.halts_last;
         answers = (subst (Answers b (h0 ++ entry ∷ h) (j0 ++ line ∷ rest) [] a) (sym reply) answers, each');
       } in
-      subst (λ y. Outcome P b front (p ∷ ps) h0 j0 s older c y) (sym lines) told
+      subst (λ y. Outcome P b front (p ∷ ps) h0 j0 s older c js y) (sym entries) (subst (λ y. Outcome P b front (p ∷ ps) h0 j0 s older c y (entry ∷ h)) (sym lines) told)
 
   -- a turn that halts: nothing is listed after it
-  stopped : Accepts (verdict p.asked.stmt s [] m) → Fits p.asked.stmt (verdict p.asked.stmt s [] m) → MayBe P s (c + clock_reads p.asked.stmt) m → p.reply ≡ reply.StoreFaultHalt (s.version + 1) → js ≡ halt_line (s.version + 1) m ∷ rest → rest ≡ []
-      → Outcome P b (front ++ p.asked ∷ []) ps (h0 ++ halt_at m ∷ []) (j0 ++ halt_line (s.version + 1) m ∷ []) (step (s ∷ []) (halt_at m)) (s ∷ older) (c + clock_reads p.asked.stmt) rest → Outcome P b front (p ∷ ps) h0 j0 s older c js
-  stopped accepts fit ok is_reply lines none later =
+  stopped : Accepts (verdict p.asked.stmt s [] m) → Fits p.asked.stmt (verdict p.asked.stmt s [] m) → MayBe P s (c + clock_reads p.asked.stmt) m → p.reply ≡ reply.StoreFaultHalt (s.version + 1) → js ≡ halt_line (s.version + 1) m ∷ rest → all ≡ halt_at m ∷ more → rest ≡ []
+      → Outcome P b (front ++ p.asked ∷ []) ps (h0 ++ halt_at m ∷ []) (j0 ++ halt_line (s.version + 1) m ∷ []) (step (s ∷ []) (halt_at m)) (s ∷ older) (c + clock_reads p.asked.stmt) rest more → Outcome P b front (p ∷ ps) h0 j0 s older c js all
+  stopped accepts fit ok is_reply lines entries none later =
       let a = p.asked in
-      let h = later.entries in
+      let h = more in
       let line = halt_line (s.version + 1) m in
       let history = subst (λ x. IsHistory (step (s ∷ older) (halt_at m) ∷ s ∷ older) x rest h) (append_assoc front (a ∷ []) (asked_of ps)) later.history in
       let no_more : h ≡ [] = no_entries (step (s ∷ older) (halt_at m) ∷ s ∷ older) (front ++ a ∷ asked_of ps) h (subst (λ x. IsHistory (step (s ∷ older) (halt_at m) ∷ s ∷ older) (front ++ a ∷ asked_of ps) x h) none history) in
       let each = subst (λ x. EachAnswers b x ((j0 ++ line ∷ []) ++ rest) [] ps) (append_assoc h0 (halt_at m ∷ []) h) later.answers in
       let each' = subst (λ x. EachAnswers b (h0 ++ halt_at m ∷ h) x [] ps) (append_assoc j0 (line ∷ []) rest) each in
       let one : c + clock_reads a.stmt ≡ c + 1 = omega (arith, accepts_reads a.stmt (verdict a.stmt s [] m) fit accepts) in
-      let told : Outcome P b front (p ∷ ps) h0 j0 s older c (line ∷ rest) = record {
-        entries = halt_at m ∷ h;
+      let told : Outcome P b front (p ∷ ps) h0 j0 s older c (line ∷ rest) (halt_at m ∷ h) = record {
         history = (ok.0, (refl, refl, refl, none), history);
         moments = moments_more P (c + 1) (halt_at m) h (subst (λ x. P x m) one ok.2) (subst (λ x. Moments P (x + 1) h) one later.moments);
         halts_last = subst (λ (x : List Entry). HaltsLast (halt_at m ∷ x)) (sym no_more) (λ k e is. cc);
         answers = (subst (Answers b (h0 ++ halt_at m ∷ h) (j0 ++ line ∷ rest) [] a) (sym is_reply) (accepted_writes a.stmt s [] m accepts, halted_here b s older h0 j0 begins a m (halt_at m ∷ h) rest accepts), each');
       } in
-      subst (λ y. Outcome P b front (p ∷ ps) h0 j0 s older c y) (sym lines) told
+      subst (λ y. Outcome P b front (p ∷ ps) h0 j0 s older c js y) (sym entries) (subst (λ y. Outcome P b front (p ∷ ps) h0 j0 s older c y (halt_at m ∷ h)) (sym lines) told)
 
 -- what the replies and the lines of a rest of a run are to each other, from a version on
 record InRun (front : ℕ) (before : List Asked) (ps : List Replied) (js : List JournalLine) : Type 0 where
@@ -299,81 +295,83 @@ none_more front before p ps js n number_is is stays version_is no_halt later =
     }
 
 module _ (P : ℕ → ℕ → Type 0) (b : State) where
-  told_from : (front : List Asked) (ps : List Replied) (h0 : List Entry) (j0 : List JournalLine) (s t : State) (older : List State) (c : ℕ) (js : List JournalLine) → Begins b s older h0 j0 → Unseen front → Counted front (asked_of ps) → Plays P c s ps js t → Outcome P b front ps h0 j0 s older c js
-  told_from front [] h0 j0 s t older c js begins unseen counted play = rw play.0 (record { entries = []; history = tt; moments = λ k e is. cc; halts_last = λ k e is. cc; answers = tt })
-  told_from front (p ∷ ps) h0 j0 s t older c js begins unseen counted play =
+  told_from : (front : List Asked) (ps : List Replied) (h0 : List Entry) (j0 : List JournalLine) (s t : State) (older : List State) (c : ℕ) (js : List JournalLine) (h : List Entry) → Begins b s older h0 j0 → Unseen front → Counted front (asked_of ps) → Plays P c s ps js h t → Outcome P b front ps h0 j0 s older c js h
+  told_from front [] h0 j0 s t older c js h begins unseen counted play = rw (play.0, play.1) (record { history = tt; moments = λ k e is. cc; halts_last = λ k e is. cc; answers = tt })
+  told_from front (p ∷ ps) h0 j0 s t older c js h begins unseen counted play =
       let m = play.0 in
       let a = p.asked in
       let seen = unseen_more front a counted.0 unseen in
       let fit = fits a.stmt s [] m in
-      elim play.2 as (λ v. Judged v (verdict a.stmt s [] m) → p.reply ≡ reply_of a.stmt v s → js ≡ as_list (line_then v s a.session a.ordinal m) ++ play.5 → Plays P (c + clock_reads a.stmt) (state_then v s a.session a.ordinal m) ps play.5 t → Outcome P b front (p ∷ ps) h0 j0 s older c js) [
-        | by_verdict (Accept w rows) ↦ λ e is_reply lines rest.
+      elim play.2 as (λ v. Judged v (verdict a.stmt s [] m) → p.reply ≡ reply_of a.stmt v s → js ≡ as_list (line_then v s a.session a.ordinal m) ++ play.5 → h ≡ entry_then v a.session a.ordinal m ++ play.7 → Plays P (c + clock_reads a.stmt) (state_then v s a.session a.ordinal m) ps play.5 play.7 t → Outcome P b front (p ∷ ps) h0 j0 s older c js h) [
+        | by_verdict (Accept w rows) ↦ λ e is_reply lines entries rest.
             let fit' : Fits a.stmt (Accept w rows) = subst (Fits a.stmt) (sym e) fit in
-            entered P b s older front p ps h0 j0 c m js play.5 begins w rows counted.0 unseen (sym e) fit' play.1 is_reply lines
-            (told_from (front ++ a ∷ []) ps (h0 ++ entry_at a.session a.ordinal m w ∷ []) (j0 ++ line_at (s.version + 1) a.session a.ordinal m ∷ []) (step (s ∷ []) (entry_at a.session a.ordinal m w)) t (s ∷ older) (c + clock_reads a.stmt) play.5 (begins_next b s older h0 j0 begins a.stmt a.session a.ordinal m w fit'.0) seen counted.1 rest)
-        | by_verdict Pass ↦ λ e is_reply lines rest. kept P b s older front p ps h0 j0 c m js play.5 begins lines
+            entered P b s older front p ps h0 j0 c m js play.5 h play.7 begins w rows counted.0 unseen (sym e) fit' play.1 is_reply lines entries
+            (told_from (front ++ a ∷ []) ps (h0 ++ entry_at a.session a.ordinal m w ∷ []) (j0 ++ line_at (s.version + 1) a.session a.ordinal m ∷ []) (step (s ∷ []) (entry_at a.session a.ordinal m w)) t (s ∷ older) (c + clock_reads a.stmt) play.5 play.7 (begins_next b s older h0 j0 begins a.stmt a.session a.ordinal m w fit'.0) seen counted.1 rest)
+        | by_verdict Pass ↦ λ e is_reply lines entries rest. kept P b s older front p ps h0 j0 c m js play.5 h play.7 begins lines entries
             (λ h. subst (Answers b (h0 ++ h) (j0 ++ play.5) [] a) (sym is_reply) (subst (Fits a.stmt) (sym e) fit, judged_here b s older h0 j0 begins a.stmt Pass m h play.5 play.1.0 play.1.1 (sym e), ap (header a.stmt) (sym (at_here b s older h0 j0 begins h)), ap (answer a.stmt) (sym (at_here b s older h0 j0 begins h))))
-            (told_from (front ++ a ∷ []) ps h0 j0 s t older (c + clock_reads a.stmt) play.5 begins seen counted.1 rest)
-        | by_verdict (Refuse cause) ↦ λ e is_reply lines rest. kept P b s older front p ps h0 j0 c m js play.5 begins lines
+            (told_from (front ++ a ∷ []) ps h0 j0 s t older (c + clock_reads a.stmt) play.5 play.7 begins seen counted.1 rest)
+        | by_verdict (Refuse cause) ↦ λ e is_reply lines entries rest. kept P b s older front p ps h0 j0 c m js play.5 h play.7 begins lines entries
             (λ h. subst (Answers b (h0 ++ h) (j0 ++ play.5) [] a) (sym is_reply) (judged_here b s older h0 j0 begins a.stmt (Refuse cause) m h play.5 play.1.0 play.1.1 (sym e)))
-            (told_from (front ++ a ∷ []) ps h0 j0 s t older (c + clock_reads a.stmt) play.5 begins seen counted.1 rest)
-        | starved ↦ λ e is_reply lines rest. kept P b s older front p ps h0 j0 c m js play.5 begins lines
+            (told_from (front ++ a ∷ []) ps h0 j0 s t older (c + clock_reads a.stmt) play.5 play.7 begins seen counted.1 rest)
+        | starved ↦ λ e is_reply lines entries rest. kept P b s older front p ps h0 j0 c m js play.5 h play.7 begins lines entries
             (λ h. subst (Answers b (h0 ++ h) (j0 ++ play.5) [] a) (sym is_reply) tt)
-            (told_from (front ++ a ∷ []) ps h0 j0 s t older (c + clock_reads a.stmt) play.5 begins seen counted.1 rest)
-        | halted ↦ λ e is_reply lines rest. stopped P b s older front p ps h0 j0 c m js play.5 begins e fit play.1 is_reply lines (none_listed P (c + clock_reads a.stmt) (step (s ∷ []) (halt_at m)) t ps play.5 (s.version + 1) refl rest)
-            (told_from (front ++ a ∷ []) ps (h0 ++ halt_at m ∷ []) (j0 ++ halt_line (s.version + 1) m ∷ []) (step (s ∷ []) (halt_at m)) t (s ∷ older) (c + clock_reads a.stmt) play.5 (begins_halted b s older h0 j0 begins m) seen counted.1 rest)
-      ] play.3 play.4 play.6 play.7
+            (told_from (front ++ a ∷ []) ps h0 j0 s t older (c + clock_reads a.stmt) play.5 play.7 begins seen counted.1 rest)
+        | halted ↦ λ e is_reply lines entries rest. stopped P b s older front p ps h0 j0 c m js play.5 h play.7 begins e fit play.1 is_reply lines entries (none_listed P (c + clock_reads a.stmt) (step (s ∷ []) (halt_at m)) t ps play.5 play.7 (s.version + 1) refl rest)
+            (told_from (front ++ a ∷ []) ps (h0 ++ halt_at m ∷ []) (j0 ++ halt_line (s.version + 1) m ∷ []) (step (s ∷ []) (halt_at m)) t (s ∷ older) (c + clock_reads a.stmt) play.5 play.7 (begins_halted b s older h0 j0 begins m) seen counted.1 rest)
+      ] play.3 play.4 play.6 play.8 play.9
 
   -- the numbers of the replies run with the front, and the journal lists the accepted ones, each once
-  in_order_from : (before : List Asked) (ps : List Replied) (s t : State) (c : ℕ) (js : List JournalLine) → Counted before (asked_of ps) → Plays P c s ps js t → InRun s.version before ps js
-  in_order_from before [] s t c js counted play = rw play.0 (record { order = tt; versions = tt; own = tt; listed_are = refl; halts = refl; rising = λ session some. tt })
-  in_order_from before (p ∷ ps) s t c js counted play =
+  in_order_from : (before : List Asked) (ps : List Replied) (s t : State) (c : ℕ) (js : List JournalLine) (h : List Entry) → Counted before (asked_of ps) → Plays P c s ps js h t → InRun s.version before ps js
+  in_order_from before [] s t c js h counted play = rw play.0 (record { order = tt; versions = tt; own = tt; listed_are = refl; halts = refl; rising = λ session some. tt })
+  in_order_from before (p ∷ ps) s t c js h counted play =
       let m = play.0 in
       let a = p.asked in
-      elim play.2 as (λ v. Judged v (verdict a.stmt s [] m) → p.reply ≡ reply_of a.stmt v s → js ≡ as_list (line_then v s a.session a.ordinal m) ++ play.5 → Plays P (c + clock_reads a.stmt) (state_then v s a.session a.ordinal m) ps play.5 t → InRun s.version before (p ∷ ps) js) [
+      elim play.2 as (λ v. Judged v (verdict a.stmt s [] m) → p.reply ≡ reply_of a.stmt v s → js ≡ as_list (line_then v s a.session a.ordinal m) ++ play.5 → Plays P (c + clock_reads a.stmt) (state_then v s a.session a.ordinal m) ps play.5 play.7 t → InRun s.version before (p ∷ ps) js) [
         | by_verdict (Accept w rows) ↦ λ e is_reply lines rest.
-            let later = in_order_from (before ++ a ∷ []) ps _ t (c + clock_reads a.stmt) play.5 counted.1 rest in
+            let later = in_order_from (before ++ a ∷ []) ps _ t (c + clock_reads a.stmt) play.5 play.7 counted.1 rest in
             subst (InRun s.version before (p ∷ ps)) (sym lines) (one_more w s.version before p ps m rows play.5 counted.0 is_reply (subst (λ f. InRun f (before ++ a ∷ []) ps play.5) (step_version (s ∷ []) (entry_at a.session a.ordinal m w)) later))
         | by_verdict Pass ↦ λ e is_reply lines rest.
-            let later = in_order_from (before ++ a ∷ []) ps s t (c + clock_reads a.stmt) play.5 counted.1 rest in
+            let later = in_order_from (before ++ a ∷ []) ps s t (c + clock_reads a.stmt) play.5 play.7 counted.1 rest in
             let query : is_query a.stmt ≡ true = subst (Fits a.stmt) (sym e) (fits a.stmt s [] m) in
             subst (InRun s.version before (p ∷ ps)) (sym lines) (none_more s.version before p ps play.5 (of_state s.version) (ap (number_of a.stmt) is_reply ∙ answer_numbered a.stmt s.version query) refl refl (ap version_of is_reply) (λ rest. ap (λ x. with_halt x rest) is_reply) later)
         | by_verdict (Refuse cause) ↦ λ e is_reply lines rest.
-            let later = in_order_from (before ++ a ∷ []) ps s t (c + clock_reads a.stmt) play.5 counted.1 rest in
+            let later = in_order_from (before ++ a ∷ []) ps s t (c + clock_reads a.stmt) play.5 play.7 counted.1 rest in
             subst (InRun s.version before (p ∷ ps)) (sym lines) (none_more s.version before p ps play.5 (of_state s.version) (ap (number_of a.stmt) is_reply) refl refl (ap version_of is_reply) (λ rest. ap (λ x. with_halt x rest) is_reply) later)
         | starved ↦ λ e is_reply lines rest.
-            let later = in_order_from (before ++ a ∷ []) ps s t (c + clock_reads a.stmt) play.5 counted.1 rest in
+            let later = in_order_from (before ++ a ∷ []) ps s t (c + clock_reads a.stmt) play.5 play.7 counted.1 rest in
             subst (InRun s.version before (p ∷ ps)) (sym lines) (none_more s.version before p ps play.5 unnumbered (ap (number_of a.stmt) is_reply) tt refl (ap version_of is_reply) (λ rest. ap (λ x. with_halt x rest) is_reply) later)
         | halted ↦ λ e is_reply lines rest.
-            let later = in_order_from (before ++ a ∷ []) ps (step (s ∷ []) (halt_at m)) t (c + clock_reads a.stmt) play.5 counted.1 rest in
+            let later = in_order_from (before ++ a ∷ []) ps (step (s ∷ []) (halt_at m)) t (c + clock_reads a.stmt) play.5 play.7 counted.1 rest in
             subst (InRun s.version before (p ∷ ps)) (sym lines) (halt_more s.version before p ps m play.5 is_reply (subst (λ f. InRun f (before ++ a ∷ []) ps play.5) (step_version (s ∷ []) (halt_at m)) later))
-      ] play.3 play.4 play.6 play.7
+      ] play.3 play.4 play.6 play.9
 
   -- what must be known of the moments for them to be timed
-  pub told_of_plays : (readings : Option (List ℕ)) → ((h : List Entry) → HaltsLast h → Moments P 1 h → Timed readings b.moment h) → (ps : List Replied) (rs : List (ℕ × ℕ × Reply)) (js : List JournalLine) (t : State) → rs ≡ map reply_line ps → Counted [] (asked_of ps) → Plays P 0 b ps js t → ToldInOrder b readings (asked_of ps) (record { base = b.version; replies = rs; streams = []; journal = js })
-  told_of_plays readings times ps rs js t replies counted play =
+  pub told_of_plays : (readings : Option (List ℕ)) → ((h : List Entry) → HaltsLast h → Moments P 1 h → Timed readings b.moment h) → (ps : List Replied) (rs : List (ℕ × ℕ × Reply)) (js : List JournalLine) (h : List Entry) (t : State) → rs ≡ map reply_line ps → Counted [] (asked_of ps) → Plays P 0 b ps js h t → (r : ToldInOrder b readings (asked_of ps) (record { base = b.version; replies = rs; streams = []; journal = js })) × (r.told.entries ≡ h)
+  told_of_plays readings times ps rs js h t replies counted play =
       let none : Unseen [] = λ session ordinal l. refl in
-      let all = told_from [] ps [] [] b t [] 0 js (record { states = refl; version = omega arith; lines = refl }) none counted play in
-      let run = in_order_from [] ps b t 0 js counted play in
-      let low : b.version ≤ b.version = omega arith in
-      record {
-        told = record {
-          base = refl;
-          versions = run.versions;
-          entries = all.entries;
-          history = all.history;
-          replied = ps;
-          replies = record { statements_are = refl; replies_are = replies };
-          answers = all.answers;
-          own_lines = subst (λ x. AreAccepted x js) (sym replies) run.own;
-          one_each = λ session some. run.rising session some;
-          one_halt = subst (λ (x : List ℕ). length x ≤ 1) (run.halts ∙ ap halts_named (sym replies)) (few_halts (b ∷ []) (asked_of ps) js all.entries all.history);
-          numbers = λ session. session_numbers session b.version b.version ps low run.order;
-          phases = phase_numbers 0 b.version b.version b.version ps low low run.order;
-          streams = refl;
-          moments = times all.entries all.halts_last all.moments;
-        };
-        own_entries = run.listed_are ∙ ap accepted (sym replies);
-        halts = run.halts ∙ ap halts_named (sym replies);
-        in_order = run.order;
-      }
+      let all = told_from [] ps [] [] b t [] 0 js h (record { states = refl; version = omega arith; lines = refl }) none counted play in
+      let run = in_order_from [] ps b t 0 js h counted play in
+      let low : b.version ≤ b.version = omega arith in (
+        record {
+          told = record {
+            base = refl;
+            versions = run.versions;
+            entries = h;
+            history = all.history;
+            replied = ps;
+            replies = record { statements_are = refl; replies_are = replies };
+            answers = all.answers;
+            own_lines = subst (λ x. AreAccepted x js) (sym replies) run.own;
+            one_each = λ session some. run.rising session some;
+            one_halt = subst (λ (x : List ℕ). length x ≤ 1) (run.halts ∙ ap halts_named (sym replies)) (few_halts (b ∷ []) (asked_of ps) js h all.history);
+            numbers = λ session. session_numbers session b.version b.version ps low run.order;
+            phases = phase_numbers 0 b.version b.version b.version ps low low run.order;
+            streams = refl;
+            moments = times h all.halts_last all.moments;
+          };
+          own_entries = run.listed_are ∙ ap accepted (sym replies);
+          halts = run.halts ∙ ap halts_named (sym replies);
+          in_order = run.order;
+        },
+        refl,
+      )

@@ -70,6 +70,14 @@ line_then (by_verdict (Refuse cause)) s session ordinal moment = None
 line_then starved s session ordinal moment = None
 line_then halted s session ordinal moment = Some (halt_line (s.version + 1) moment)
 
+-- the entry that a turn adds, if it adds one
+abbrev pub entry_then : End → ℕ → ℕ → ℕ → List Entry
+entry_then (by_verdict (Accept w rows)) session ordinal m = entry_at session ordinal m w ∷ []
+entry_then (by_verdict Pass) session ordinal m = []
+entry_then (by_verdict (Refuse cause)) session ordinal m = []
+entry_then starved session ordinal m = []
+entry_then halted session ordinal m = halt_at m ∷ []
+
 abbrev pub as_list : Option JournalLine → List JournalLine
 as_list None = []
 as_list (Some j) = j ∷ []

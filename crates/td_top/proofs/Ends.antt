@@ -12,3 +12,5 @@ line_is (status.BadScript line) done = refl
 line_is status.TooLarge done = refl
 line_is status.InputFault done = refl
 line_is status.OutputFault done = refl
+line_is status.StoreFault done = refl
+line_is (status.NotThisStore file at) done = refl

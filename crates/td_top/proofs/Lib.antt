@@ -2,6 +2,8 @@ pub mod Streams
 pub mod Complete
 pub mod Clocks
 pub mod Runs
+pub mod Turned
+pub mod Places
 pub mod Ran
 pub mod Ends
 pub mod Arguments

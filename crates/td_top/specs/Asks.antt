@@ -5,9 +5,7 @@ use Rattle.td_parse.specs.Statements.{IsAnswer}
 use Rattle.td_model.specs.declared.report.Report.{Report}
 use Rattle.td_model.specs.State.{State}
 use Rattle.td_told.specs.Asked.{Asked}
-use Rattle.td_told.specs.Times.{WereTaken}
 use Rattle.td_told.specs.Told.{ToldInOrder}
-use Rattle.td_told.specs.Turn.{reads}
 
 -- a line's phase, session and ordinal, and its text's tree, or the cause that it is none
 pub record Asks (l : Line) (a : Asked) : Type 0 where
@@ -28,8 +26,3 @@ pub record TellsLines (b : State) (readings : Option (List ℕ)) (lines : List L
   pub script : List Asked
   pub asks : AsksAll lines script
   pub told : ToldInOrder b readings script r
-
--- Moreover the clock was read as often as the script has writes and texts that are no statement.
-pub record PlaysLines (b : State) (before after : Option (List ℕ)) (lines : List Line) (r : Report) : Type 0 where
-  pub tells : TellsLines b before lines r
-  pub readings : WereTaken before (reads tells.script) after

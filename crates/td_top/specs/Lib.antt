@@ -1,5 +1,6 @@
 pub mod Asks
-pub mod Moment
+pub mod Replies
+pub mod Turns
 pub mod Stream
 pub mod Status
 pub mod Run

@@ -4,7 +4,6 @@ use Rattle.std.specs.Io.KnownBytes.{Appends}
 use Rattle.std.specs.declared.io.ErrorKind.{ErrorKind}
 use Rattle.std.specs.declared.io.ErrorKind.TheVariants.{OutOfMemory}
 use Rattle.td_outside.specs.Causes.{Rose}
-use Rattle.td_model.specs.State.{State}
 use Rattle.td_words.specs.Words.{dir_of}
 use Rattle.td_top.specs.Stream.{WroteFront}
 use Rattle.td_top.specs.Run.{Devices, Runs}
@@ -18,9 +17,9 @@ pub record Starved {I O P : Type 0} (before after : Devices I O P) (s : Status) 
 
 -- Over these arguments, of which the first is the program's own name, the words behind it were run.
 abbrev pub RunsWords : {I O P : Type 0}
-    → List (List ℕ) → State → Option (List ℕ) → Devices I O P → Devices I O P → Status → Type 0
-RunsWords args b readings before after s =
-    Runs (dir_of (drop 1 args)) b readings before after s ⊎ Starved before after s
+    → List (List ℕ) → Option (List ℕ) → Devices I O P → Devices I O P → Status → Type 0
+RunsWords args readings before after s =
+    Runs (dir_of (drop 1 args)) readings before after s ⊎ Starved before after s
 
 -- The arguments couldn't be read: for want of memory, or since one isn't text. Nothing was touched.
 pub record Unread {I O P : Type 0} (kind : ErrorKind) (before after : Devices I O P) (s : Status) : Type 0 where

@@ -1,5 +1,5 @@
 -- What reading a whole source and writing a whole text did.
-use Rattle.std.specs.Prelude.{◌≡◌, ◌⊎◌, ℕ, ◌+◌, ◌≤◌, List, length, take, Option, Result, OnOk, OnErr}
+use Rattle.std.specs.Prelude.{◌≡◌, ℕ, ◌+◌, ◌≤◌, List, length, take, Option, Result, OnOk, OnErr}
 use Rattle.std.specs.Io.KnownBytes.{Consumes, IsAtEnd, Appends}
 use Rattle.td_limits.specs.declared.limits.TheConstants.{SCRIPT_BYTES}
 use Rattle.td_outside.specs.Causes.{Rose}

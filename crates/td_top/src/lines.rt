@@ -1,80 +1,126 @@
-//! The lines of a script, played one after another.
-ghost use Rattle.std.specs.Prelude.{◌≡◌, ◌≤◌, ◌++◌, ◌∷◌, [], IfOk, OnOk};
+//! The lines of a script, played one after another on a core.
+ghost use Rattle.std.specs.Prelude.{◌≡◌, ◌≤◌, [], IfOk, OnErr};
+ghost use Rattle.td_limits.specs.declared.limits.TheConstants.{LAST_TIMESTAMP};
 ghost use Rattle.td_script.specs.Script.{Numbered};
-ghost use Rattle.td_model.specs.State.{empty_state};
-ghost use Rattle.td_told.specs.Turn.{as_list};
-ghost use Rattle.td_top.specs.Asks.{PlaysLines};
-ghost use Rattle.td_top.specs.Moment.{TakesMoment, TurnOf};
+ghost use Rattle.td_core.specs.CoreState.{seen};
+ghost use Rattle.td_core.specs.Covers.{Covers};
+ghost use Rattle.td_top.specs.Turns.{PlayedOn, RepliedOn, PlayedText, HasSome};
 
+use crate::turns::line_turn;
 use std::alloc::Global;
+use td_core::Core;
 use td_layer::{NoMem, Seq};
-use td_limits::LAST_TIMESTAMP;
-use td_model::{JournalLine, Report, Stmt};
-use td_outside::Clock;
-use td_parse::{Line, statement};
-use td_tables::{Tables, Turn};
-use td_told::reads_clock;
+use td_model::{JournalLine, Mark, Reply, Report};
+use td_outside::{Clock, Store};
+use td_parse::Line;
+use td_report::report;
 
-fn push_line(journal: &mut Seq<JournalLine>, line: Option<JournalLine>) -> Result<(), NoMem>
-    ensures { OnOk result (journal.new ≡ journal.old ++ as_list line) }
+fn copied_mark(mark: &Mark) -> Result<Mark, NoMem>
+    ensures { IfOk result (λ m. m ≡ mark.now) }
 {
-    if let Some(line) = line {
-        journal.add(line)?;
-    }
-    Ok(())
-}
-
-// The moment of a statement's turn, which isn't before the floor.
-fn moment_of<C: Clock>(stmt: &Stmt, floor: u64, clock: &mut C) -> u64
-    requires { floor ≤ LAST_TIMESTAMP }
-    ensures most { result ≤ LAST_TIMESTAMP }
-    ensures takes { TakesMoment stmt.now (C.readings clock.old) (C.readings clock.new) floor result }
-{
-    if reads_clock(stmt) {
-        clock.now().max(floor)
-    } else {
-        floor
+    match mark {
+        Mark::Plain => Ok(Mark::Plain),
+        Mark::Halt => Ok(Mark::Halt),
+        Mark::Step {
+            stream,
+            upto,
+            moment,
+        } => {
+            let stream = stream.copy()?;
+            Ok(Mark::Step {
+                stream,
+                upto: *upto,
+                moment: *moment,
+            })
+        }
     }
 }
 
-// A line's turn: its text is read as a statement, which has its turn on the tables at its moment.
-fn turn_of<C: Clock>(
-    alloc: Global,
-    tables: &mut Tables,
-    line: &Line,
-    floor: u64,
-    clock: &mut C,
-) -> Result<(u64, Turn), NoMem>
-    requires { floor ≤ LAST_TIMESTAMP }
-    ensures { IfOk result (λ r. TurnOf line.now tables.old.state tables.new.state
-        (C.readings clock.old) (C.readings clock.new) floor r.0 r.1.reply r.1.line) }
+fn copied_line(line: &JournalLine) -> Result<JournalLine, NoMem>
+    ensures { IfOk result (λ l. l ≡ line.now) }
 {
-    let stmt = statement(alloc, line.text.as_slice())?;
-    let moment = moment_of(&stmt, floor, clock);
-    let turn = tables.turn(line.session, line.ordinal, moment, &stmt);
-    Ok((moment, turn))
+    let mark = copied_mark(&line.mark)?;
+    Ok(JournalLine {
+        version: line.version,
+        session: line.session,
+        ordinal: line.ordinal,
+        moment: line.moment,
+        mark,
+    })
 }
 
-/// Plays the lines of a script in their order, from no table on. The answer is the report, or want of memory for it. The turn of a write or of a text that is no statement reads the clock once, that
-/// of a query not at all; the moments are the clock's readings, and don't fall where these do.
-pub fn play_lines<C: Clock>(alloc: Global, lines: &[Line], clock: &mut C) -> Result<Report, NoMem>
-    requires { Numbered [] lines.now }
-    ensures { IfOk result (λ r. PlaysLines empty_state (C.readings clock.old) (C.readings clock.new) lines.now r) }
+fn copied_lines(alloc: Global, lines: &[JournalLine]) -> Result<Seq<JournalLine>, NoMem>
+    ensures { IfOk result (λ all. all ≡ lines.now) }
 {
-    let mut tables = Tables::new(alloc);
-    let mut replies = Seq::new(alloc);
-    let mut journal = Seq::new(alloc);
-    let mut floor = 0;
+    let mut all = Seq::new(alloc);
     for line in lines {
-        let (moment, turn) = turn_of(alloc, &mut tables, line, floor, clock)?;
-        floor = moment;
-        replies.add((line.session, line.ordinal, turn.reply))?;
-        push_line(&mut journal, turn.line)?;
+        all.add(copied_line(line)?)?;
     }
+    Ok(all)
+}
+
+// The replies to the lines of a script, with the session and the ordinal of each.
+fn replies_to<S: Store, C: Clock>(
+    alloc: Global,
+    core: &mut Core<S, C>,
+    lines: &[Line],
+) -> Result<Seq<(u32, u32, Reply)>, NoMem>
+    requires numbered { Numbered [] lines.now }
+    requires covers { Covers (C.readings core.old.clock) (seen S.told S.count C.readings core.old) core.old.state [] }
+    requires floor { (core.old.floor ≡ core.old.state.moment) × (core.old.floor ≤ LAST_TIMESTAMP) }
+    requires base { (core.old.base ≡ core.old.state.version) × (core.old.journal ≡ []) }
+    ensures replies { IfOk result (λ rs. RepliedOn (seen S.told S.count C.readings core.old) (seen S.told S.count C.readings core.new) lines.now rs) }
+    ensures broke { OnErr result (HasSome (seen S.told S.count C.readings core.old) (seen S.told S.count C.readings core.new)) }
+{
+    let mut replies = Seq::new(alloc);
+    for line in lines {
+        let reply = line_turn(alloc, core, line)?;
+        replies.add((line.session, line.ordinal, reply))?;
+    }
+    Ok(replies)
+}
+
+/// Plays the lines of a script in their order on a core that was opened and has no entry since. The answer is the report, or want
+/// of memory for it: the core then has the entries of the lines so far.
+///
+/// The turn of a write or of a text that is no statement reads the clock once, that of a query not at all; the moments are the
+/// clock's readings, and don't fall where these do.
+pub fn play_lines<S: Store, C: Clock>(
+    alloc: Global,
+    core: &mut Core<S, C>,
+    lines: &[Line],
+) -> Result<Report, NoMem>
+    requires numbered { Numbered [] lines.now }
+    requires covers { Covers (C.readings core.old.clock) (seen S.told S.count C.readings core.old) core.old.state [] }
+    requires floor { (core.old.floor ≡ core.old.state.moment) × (core.old.floor ≤ LAST_TIMESTAMP) }
+    requires base { (core.old.base ≡ core.old.state.version) × (core.old.journal ≡ []) }
+    ensures played { IfOk result (λ r. PlayedOn (seen S.told S.count C.readings core.old) (seen S.told S.count C.readings core.new) lines.now r) }
+    ensures broke { OnErr result (HasSome (seen S.told S.count C.readings core.old) (seen S.told S.count C.readings core.new)) }
+{
+    let replies = replies_to(alloc, core, lines)?;
+    let journal = copied_lines(alloc, core.journal())?;
     Ok(Report {
-        base: 0,
+        base: core.base(),
         replies,
         streams: Seq::new(alloc),
         journal,
     })
+}
+
+// The text of the report of lines that are played.
+pub(crate) fn report_of<S: Store, C: Clock>(
+    alloc: Global,
+    core: &mut Core<S, C>,
+    lines: &[Line],
+) -> Result<Seq<u8>, NoMem>
+    requires numbered { Numbered [] lines.now }
+    requires covers { Covers (C.readings core.old.clock) (seen S.told S.count C.readings core.old) core.old.state [] }
+    requires floor { (core.old.floor ≡ core.old.state.moment) × (core.old.floor ≤ LAST_TIMESTAMP) }
+    requires base { (core.old.base ≡ core.old.state.version) × (core.old.journal ≡ []) }
+    ensures played { IfOk result (λ text. PlayedText (seen S.told S.count C.readings core.old) (seen S.told S.count C.readings core.new) lines.now text) }
+    ensures broke { OnErr result (HasSome (seen S.told S.count C.readings core.old) (seen S.told S.count C.readings core.new)) }
+{
+    let played = play_lines(alloc, core, lines)?;
+    let text = report(alloc, &played)?;
+    Ok(text)
 }

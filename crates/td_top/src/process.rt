@@ -1,10 +1,10 @@
 //! The program, from its arguments to its exit code.
-ghost use Rattle.std.specs.Prelude.{◌≡◌, ◌↔◌, ◌⊎◌, ◌++◌, codes, map, drop, IfOk, MatchResult, string_bytes};
+ghost use Rattle.std.specs.Prelude.{◌≡◌, ◌↔◌, ◌⊎◌, ◌++◌, false, codes, map, drop, IfOk, MatchResult, string_bytes};
+ghost use Rattle.std.specs.Fmt.{decimal};
 ghost use Rattle.std.specs.IoError.{error_kind};
 ghost use Rattle.std.specs.Process.{exit_status};
 ghost use Rattle.std.specs.Vec.Iter.{into_iter_items};
-ghost use Rattle.td_model.specs.State.{empty_state};
-ghost use Rattle.td_top.specs.Exit.{exit_number, number_text, status_text, status_line};
+ghost use Rattle.td_top.specs.Exit.{exit_number, file_text, place_text, status_rest, status_text, status_line};
 ghost use Rattle.td_top.specs.Program.{RunsWords, Unread, WroteLine};
 ghost use Rattle.td_top.specs.Run.{seen};
 ghost use Rattle.td_top.specs.Stream.{Writes};
@@ -20,6 +20,7 @@ use std::io::{self, ErrorKind};
 use std::process::ExitCode;
 use std::sync::Wait;
 use std::thread::Threads;
+use td_core::FileId;
 use td_layer::NoMem;
 use td_outside::{Clock, Failed, Gate, Place, Sink, Source};
 
@@ -57,9 +58,11 @@ fn status_of<R: Threads + Wait + Sync, I: Source, O: Sink, P: Place, C: Clock, G
     clock: C,
     gate: &G,
 ) -> Status
-    ensures { RunsWords (map string_bytes (into_iter_items args)) empty_state (C.readings clock)
-        (seen I.left I.given I.count O.written O.count input.old out.old place.old)
-        (seen I.left I.given I.count O.written O.count input.new out.new place.new) result }
+    requires inside { P.is_out place.old ≡ false }
+    ensures runs { RunsWords (map string_bytes (into_iter_items args)) (C.readings clock)
+        (seen I.left I.given I.count O.written O.count P.told P.count P.taken input.old out.old place.old)
+        (seen I.left I.given I.count O.written O.count P.told P.count P.taken input.new out.new place.new) result }
+    ensures inside { P.is_out place.new ≡ false }
 {
     match words_of(alloc, args) {
         Ok(words) => vnode(rt, alloc, words.as_slice(), input, out, place, clock, gate),
@@ -67,17 +70,50 @@ fn status_of<R: Threads + Wait + Sync, I: Source, O: Sink, P: Place, C: Clock, G
     }
 }
 
-// Writes a number, where there is one.
-fn write_number<E: Sink>(err: &mut E, number: Option<u64>) -> Result<(), Failed>
-    ensures { Writes (E.written err.old) (E.written err.new) (E.count err.old) (E.count err.new) result
-        (number_text number) }
+// Writes a number.
+fn write_number<E: Sink>(err: &mut E, number: u64) -> Result<(), Failed>
+    ensures { Writes (E.written err.old) (E.written err.new) (E.count err.old) (E.count err.new) result (decimal number) }
 {
-    match number {
-        None => write_all(err, b""),
-        Some(number) => {
-            let mut digits = Buffer::new();
-            write_all(err, digits.format(number).as_bytes())
-        }
+    let mut digits = Buffer::new();
+    write_all(err, digits.format(number).as_bytes())
+}
+
+// Writes words and a number behind them.
+fn write_numbered<E: Sink>(err: &mut E, words: &[u8], number: u64) -> Result<(), Failed>
+    ensures { Writes (E.written err.old) (E.written err.new) (E.count err.old) (E.count err.new) result
+        (words.now ++ decimal number) }
+{
+    write_all(err, words)?;
+    write_number(err, number)
+}
+
+// Writes the name of a file of a store.
+fn write_file<E: Sink>(err: &mut E, file: FileId) -> Result<(), Failed>
+    ensures { Writes (E.written err.old) (E.written err.new) (E.count err.old) (E.count err.new) result (file_text file) }
+{
+    match file {
+        FileId::Head => write_all(err, b"head"),
+        FileId::Log(number) => write_numbered(err, b"log ", number),
+        FileId::File(number) => write_numbered(err, b"file ", number),
+    }
+}
+
+// Writes a place in a file of a store.
+fn write_place<E: Sink>(err: &mut E, file: FileId, at: u64) -> Result<(), Failed>
+    ensures { Writes (E.written err.old) (E.written err.new) (E.count err.old) (E.count err.new) result (place_text file at) }
+{
+    write_file(err, file)?;
+    write_numbered(err, b" at ", at)
+}
+
+// Writes the rest of a status' line, behind its words.
+fn write_rest<E: Sink>(err: &mut E, status: Status) -> Result<(), Failed>
+    ensures { Writes (E.written err.old) (E.written err.new) (E.count err.old) (E.count err.new) result (status_rest status) }
+{
+    match status {
+        Status::BadScript(line) => write_number(err, line),
+        Status::NotThisStore { file, at } => write_place(err, file, at),
+        _ => write_all(err, b""),
     }
 }
 
@@ -87,7 +123,7 @@ fn write_text<E: Sink>(err: &mut E, status: Status) -> Result<(), Failed>
         (status_text status ++ codes "\n") }
 {
     write_all(err, status.words().as_bytes())?;
-    write_number(err, status.number())?;
+    write_rest(err, status)?;
     write_all(err, b"\n")
 }
 
@@ -127,13 +163,15 @@ pub fn program<R: Threads + Wait + Sync, I: Source, O: Sink, E: Sink, P: Place, 
     clock: C,
     gate: &G,
 ) -> ExitCode
-    ensures { (status : Status) × (exit_status result ≡ exit_number status)
+    requires inside { P.is_out place.old ≡ false }
+    ensures runs { (status : Status) × (exit_status result ≡ exit_number status)
         × WroteLine (E.written err.old) (E.written err.new) (E.count err.old) (E.count err.new) (status_line status)
-        × (let before = seen I.left I.given I.count O.written O.count input.old out.old place.old in
-        let after = seen I.left I.given I.count O.written O.count input.new out.new place.new in
+        × (let before = seen I.left I.given I.count O.written O.count P.told P.count P.taken input.old out.old place.old in
+        let after = seen I.left I.given I.count O.written O.count P.told P.count P.taken input.new out.new place.new in
         MatchResult args
-        (λ args. RunsWords (map string_bytes (into_iter_items args)) empty_state (C.readings clock) before after status)
+        (λ args. RunsWords (map string_bytes (into_iter_items args)) (C.readings clock) before after status)
         (λ error. Unread (error_kind error) before after status)) }
+    ensures inside { P.is_out place.new ≡ false }
 {
     let status = match args {
         Ok(args) => status_of(rt, alloc, args, input, out, place, clock, gate),

@@ -1,12 +1,14 @@
 //! How the program ends: the statuses, their exit numbers and their lines.
 ghost use Rattle.std.specs.Prelude.{◌≡◌, Some};
-ghost use Rattle.td_top.specs.Exit.{exit_number, status_words, status_number, status_text};
-ghost use Rattle.td_top.specs.Status.{script_status, read_status};
+ghost use Rattle.td_top.specs.Exit.{exit_number, status_words, status_text};
+ghost use Rattle.td_top.specs.Status.{script_status, read_status, open_status, enter_status};
 ghost use Rattle.td_top.specs.declared.status.Status.TheVariants as status;
 
 use crate::stream::ReadFault;
 use std::fmt;
+use td_core::{FileId, OpenCause};
 use td_layer::NoMem;
+use td_outside::IoFault;
 use td_script::ScriptFault;
 
 /// How the program ends.
@@ -26,6 +28,11 @@ pub enum Status {
     InputFault,
     /// A write failed. What was written is a front of the report.
     OutputFault,
+    /// The directory couldn't be entered or the store not opened, and nothing was written; or the directory failed as it was left,
+    /// and the report was written.
+    StoreFault,
+    /// The store breaks the form of a store first in this file, at this place in bytes from 0. Nothing was written or changed.
+    NotThisStore { file: FileId, at: u64 },
 }
 
 impl Status {
@@ -41,10 +48,12 @@ impl Status {
             Status::TooLarge => 4,
             Status::InputFault => 5,
             Status::OutputFault => 6,
+            Status::StoreFault => 7,
+            Status::NotThisStore { .. } => 8,
         }
     }
 
-    // The words of the line on standard error, before its number; none for `Done`.
+    // The words of the line on standard error, before its number or its place; none for `Done`.
     pub(crate) fn words(self) -> &'static str
         ensures { result.now ≡ status_words self }
     {
@@ -56,16 +65,8 @@ impl Status {
             Status::TooLarge => "script too large",
             Status::InputFault => "input fault",
             Status::OutputFault => "output fault",
-        }
-    }
-
-    // The number in the line on standard error, where it has one.
-    pub(crate) fn number(self) -> Option<u64>
-        ensures { result ≡ status_number self }
-    {
-        match self {
-            Status::BadScript(line) => Some(line),
-            _ => None,
+            Status::StoreFault => "store fault",
+            Status::NotThisStore { .. } => "not this store: ",
         }
     }
 }
@@ -76,10 +77,15 @@ impl fmt::Display for Status {
 
     fn fmt<W: fmt::Write>(&self, f: &mut fmt::Formatter<W>) -> fmt::Result {
         f.write_str(self.words())?;
-        if let Some(number) = self.number() {
-            write!(f, "{number}")?;
+        match *self {
+            Status::BadScript(line) => write!(f, "{line}"),
+            Status::NotThisStore { file, at } => match file {
+                FileId::Head => write!(f, "head at {at}"),
+                FileId::Log(number) => write!(f, "log {number} at {at}"),
+                FileId::File(number) => write!(f, "file {number} at {at}"),
+            },
+            _ => Ok(()),
         }
-        Ok(())
     }
 }
 
@@ -110,6 +116,29 @@ impl From<ReadFault> for Status {
             ReadFault::NoMemory => Status::NoMemory,
             ReadFault::TooLarge => Status::TooLarge,
             ReadFault::Input => Status::InputFault,
+        }
+    }
+}
+
+impl From<IoFault> for Status {
+    ghost from_gives = { λ fault s. s ≡ enter_status fault };
+
+    fn from(fault: IoFault) -> Status {
+        match fault {
+            IoFault::Failed => Status::StoreFault,
+            IoFault::NoMemory => Status::NoMemory,
+        }
+    }
+}
+
+impl From<OpenCause> for Status {
+    ghost from_gives = { λ cause s. s ≡ open_status cause };
+
+    fn from(cause: OpenCause) -> Status {
+        match cause {
+            OpenCause::StoreFault => Status::StoreFault,
+            OpenCause::NotThisStore { file, at } => Status::NotThisStore { file, at },
+            OpenCause::NoMemory => Status::NoMemory,
         }
     }
 }

@@ -1,22 +1,23 @@
 //! [run] The program: it makes the real devices, and `td_top` does all else.
 //!
-//! It stands on `td_top` for all that it does, on `td_realdev` for the streams, the clock and the gate, and on `td_memdev`
-//! for the place, of which nothing is used yet.
+//! It stands on `td_top` for all that it does, and on `td_realdev` for the devices: the streams, the directory, the clock and the
+//! gate.
 #![tactic(auto)]
 
 use std::env;
 use std::process::ExitCode;
-use td_layer::Seq;
-use td_memdev::{MemPlace, MemStore};
-use td_realdev::{OpenGate, StandardInput, StandardOutput, SystemClock};
+use td_realdev::{DirPlace, OpenGate, StandardInput, StandardOutput, SystemClock};
 use td_top::program;
 
 fn main(rt: HostRuntime) -> ExitCode {
-    let Ok(own) = rt.clone() else {
+    let Ok(of_place) = rt.clone() else {
+        return ExitCode::FAILURE;
+    };
+    let Ok(of_clock) = rt.clone() else {
         return ExitCode::FAILURE;
     };
     let alloc = rt.alloc();
-    let mut place = MemPlace::new(MemStore::new(alloc, Seq::new(alloc)), Seq::new(alloc));
+    let mut place = DirPlace::new(of_place);
     program(
         &rt,
         alloc,
@@ -25,7 +26,7 @@ fn main(rt: HostRuntime) -> ExitCode {
         &mut StandardOutput::new(rt.stdout()),
         &mut StandardOutput::new(rt.stderr()),
         &mut place,
-        SystemClock::new(own),
+        SystemClock::new(of_clock),
         &OpenGate,
     )
 }

@@ -1,5 +1,5 @@
 use Rattle.std.proofs.Common.{◌∙◌}
-use Rattle.td_rows.proofs.Undone.{after_more}
+use Rattle.td_rows.proofs.Puts.{after_more}
 use Rattle.td_rows.proofs.tree.RowTree.with_puts.Goals as goal
 
 pub loop-put-preserved : goal.loop-put-preserved
