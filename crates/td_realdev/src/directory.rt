@@ -72,9 +72,10 @@ impl Directory {
     {
         for number in self.next..u64::MAX {
             let path = path_of(self.alloc, &self.path, 'f', number)?;
+            self.making.reserve(1)?;
             match File::create_new(&self.rt, path.as_str()) {
                 Ok(file) => {
-                    self.making.push(number)?;
+                    self.making.push(number).unwrap();
                     self.next = number + 1;
                     return Ok((number, file));
                 }
@@ -88,9 +89,18 @@ impl Directory {
         Err(io::Error::from(ErrorKind::StorageFull))
     }
 
-    /// Makes a written file stable under its number.
+    /// Makes a written file stable under its number. Where it fails, the file is abandoned.
     pub fn finish(&mut self, number: u64, file: &File, end: u64, is_torn: bool) -> io::Result<()> {
+        if let Err(error) = self.make_stable(file, end, is_torn) {
+            let _ = self.abandon(number);
+            return Err(error);
+        }
         self.forget(number);
+        Ok(())
+    }
+
+    // Cuts off what a failed write left behind the end of a file, and syncs the file and the directory.
+    fn make_stable(&self, file: &File, end: u64, is_torn: bool) -> io::Result<()> {
         if is_torn {
             file.set_len(end)?;
         }
@@ -98,11 +108,12 @@ impl Directory {
         self.handle.sync_all()
     }
 
-    /// Takes an unfinished file away.
+    /// Takes an unfinished file away. Where it fails, the file stays in making, so that `names` doesn't list it.
     pub fn abandon(&mut self, number: u64) -> io::Result<()> {
-        self.forget(number);
         let path = path_of(self.alloc, &self.path, 'f', number)?;
-        fs::remove_file(&self.rt, path.as_str())
+        fs::remove_file(&self.rt, path.as_str())?;
+        self.forget(number);
+        Ok(())
     }
 
     // The file of a number is no longer in making.
@@ -118,7 +129,7 @@ impl Directory {
         Ok((file, size))
     }
 
-    /// Takes a finished file away.
+    /// Takes a finished file away. Where only the sync of the directory fails, the file is gone all the same.
     pub fn remove(&mut self, number: u64) -> io::Result<()> {
         let path = path_of(self.alloc, &self.path, 'f', number)?;
         fs::remove_file(&self.rt, path.as_str())?;
@@ -138,26 +149,29 @@ impl Directory {
         }
     }
 
-    /// Puts bytes in the place of the head: written aside, synced, renamed, and the directory synced.
+    /// Puts bytes in the place of the head: written aside, synced, renamed, and the directory synced. Where only the
+    /// sync of the directory fails, the new head is there all the same.
     pub fn head_swap(&mut self, bytes: &[u8]) -> io::Result<()> {
         let path = self.path_to("head")?;
         self.put_aside(path.as_str(), bytes)?;
-        Ok(())
+        self.handle.sync_all()
     }
 
     /// Puts a log of one byte, a closed gate, in the place of what is there: written aside, synced, renamed, and the
-    /// directory synced.
+    /// directory synced. Where only the sync of the directory fails, the new log is there all the same.
     pub fn log_create(&mut self, number: u64) -> io::Result<()> {
         let path = path_of(self.alloc, &self.path, 'w', number)?;
+        self.logs.reserve(1)?;
         let file = self.put_aside(path.as_str(), &[0])?;
         self.logs.retain(|log| log.number != number);
-        self.logs.push(LogFile {
+        let log = LogFile {
             number,
             file,
             size: 1,
             grew: false,
-        })?;
-        Ok(())
+        };
+        self.logs.push(log).unwrap();
+        self.handle.sync_all()
     }
 
     /// Writes to a log.
@@ -193,7 +207,7 @@ impl Directory {
         }
     }
 
-    /// Takes a log away, if it is there.
+    /// Takes a log away, if it is there. Where only the sync of the directory fails, the log is gone all the same.
     pub fn log_drop(&mut self, number: u64) -> io::Result<()> {
         self.logs.retain(|log| log.number != number);
         let path = path_of(self.alloc, &self.path, 'w', number)?;
@@ -226,8 +240,9 @@ impl Directory {
         Ok(self.logs.len() - 1)
     }
 
-    // Writes a file aside, syncs it, renames it to its path, and syncs the directory. Gives its handle.
-    fn put_aside(&mut self, path: &str, bytes: &[u8]) -> io::Result<File> {
+    // Writes a file aside, syncs it, and renames it to its path. Where it fails, what was at the path is as it was.
+    // The directory isn't synced yet. Gives the file's handle.
+    fn put_aside(&self, path: &str, bytes: &[u8]) -> io::Result<File> {
         let mut aside = String::from_str(self.alloc, path)?;
         aside.push_str(".new")?;
         let file = File::options()
@@ -239,7 +254,6 @@ impl Directory {
         file.write_all_at(bytes, 0)?;
         file.sync_all()?;
         fs::rename(&self.rt, aside.as_str(), path)?;
-        self.handle.sync_all()?;
         Ok(file)
     }
 
