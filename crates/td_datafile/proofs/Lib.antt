@@ -1,0 +1,5 @@
+pub mod Adding
+pub mod SumLaws
+pub mod EntryLaws
+pub mod IndexLaws
+pub mod Vectors

@@ -1,0 +1,17 @@
+pub mod Bytes
+pub mod Says
+pub mod Queries
+pub mod Statements
+pub mod Places
+pub mod Texts
+pub mod Kept
+pub mod Lists
+pub mod Schemas
+pub mod Causes
+pub mod Cells
+pub mod Headers
+pub mod Rows
+pub mod Replies
+pub mod Counted
+pub mod Histories
+pub mod Reports

@@ -1,0 +1,51 @@
+-- Laws of names.
+use Rattle.std.specs.Prelude.{◌≡◌, ℕ, List, [], ◌∷◌, length, Option}
+use Rattle.std.specs.List.{AllByRecursion}
+use Rattle.td_model.specs.declared.history.Verdict.TheVariants.{Accept}
+use Rattle.td_model.specs.declared.history.What.{What}
+use Rattle.td_model.specs.declared.language.Stmt.{Stmt}
+use Rattle.td_model.specs.declared.report.Report.{Report}
+use Rattle.td_model.specs.Printable.{IsCount, IsPrintableReply, IsPrintable}
+use Rattle.td_model.specs.State.{State, step}
+use Rattle.td_parse.specs.Statements.{IsAnswer}
+use Rattle.td_told.specs.Asked.{Asked}
+use Rattle.td_told.specs.Told.{Told}
+use Rattle.td_told.specs.Turn.{End, Judged, entry_at, reply_of, state_then}
+use Rattle.td_told.specs.Verdict.{verdict, answer}
+use Rattle.td_verdict.specs.Sound.{IsSound}
+use Rattle.td_printed.specs.Names.{HasWords, AreWords, IsCounted, HasCounts}
+
+-- Each name in what is answered of a text is a word.
+abbrev pub NamesOfATextAreWords : Type 0
+NamesOfATextAreWords = (text : List ℕ) (answer : Stmt) → IsAnswer text answer → HasWords answer
+
+-- A statement with words, accepted in a state whose catalog has words, gives an entry that keeps the catalog so.
+abbrev pub EntriesKeepWords : Type 0
+EntriesKeepWords = (q : Stmt) (s : State) (cursors : List (List ℕ)) (session ordinal moment : ℕ) →
+    (w : What) (rows : ℕ) → HasWords q → AreWords s.catalog → verdict q s cursors moment ≡ Accept w rows →
+    AreWords (step (s ∷ []) (entry_at session ordinal moment w)).catalog
+
+-- However its turn ends, the catalog has words afterwards.
+abbrev pub TurnsKeepWords : Type 0
+TurnsKeepWords = (q : Stmt) (s : State) (end : End) (session ordinal moment : ℕ) → HasWords q → AreWords s.catalog →
+    Judged end (verdict q s [] moment) → AreWords (state_then end s session ordinal moment).catalog
+
+-- The reply to a statement with words, in a sound state whose catalog has words, can be printed, however its turn ends:
+-- where the numbers of the state and the moment are below 2^64, and so is the count of an answer's rows.
+abbrev pub RepliesArePrintable : Type 0
+RepliesArePrintable = (q : Stmt) (s : State) (end : End) (moment : ℕ) → HasWords q → AreWords s.catalog → IsSound s →
+    IsCounted s → IsCount moment → IsCount (length (answer q s)) → Judged end (verdict q s [] moment) →
+    IsPrintableReply (reply_of q end s)
+
+-- The numbers of a state stay below 2^64, however a turn ends at a moment below that.
+abbrev pub StatesStayCounted : Type 0
+StatesStayCounted = (q : Stmt) (s : State) (end : End) (session ordinal moment : ℕ) → IsCounted s → IsCount moment →
+    Judged end (verdict q s [] moment) → IsCounted (state_then end s session ordinal moment)
+
+-- A report that tells the run of a script from b on can be printed, where each statement has words, b is sound and its
+-- catalog has words, and the numbers of b and of the report are below 2^64.
+abbrev pub ToldReportsArePrintable : Type 0
+ToldReportsArePrintable = (b : State) (readings : Option (List ℕ)) (script printed : List Asked) (r : Report) →
+    Told b readings script printed r → AllByRecursion (λ (a : Asked). HasWords a.stmt) script →
+    AllByRecursion (λ (a : Asked). HasWords a.stmt) printed → IsSound b → AreWords b.catalog → IsCounted b →
+    HasCounts r → IsPrintable r

@@ -1,0 +1,44 @@
+//! Laws of names, from the text of a statement to the reply.
+ghost use Rattle.td_model.specs.Catalog.{empty_catalog};
+ghost use Rattle.td_model.specs.State.{empty_state};
+ghost use Rattle.td_printed.specs.Names.{AreWords, IsCounted};
+ghost use Rattle.td_printed.specs.Laws.{
+  NamesOfATextAreWords,
+  EntriesKeepWords,
+  TurnsKeepWords,
+  RepliesArePrintable,
+  StatesStayCounted,
+  ToldReportsArePrintable,
+};
+
+/// Each name in what is answered of a text is a word, and where the text has no tree, its cause can be printed: the
+/// place of an error of syntax is below 2^64.
+pub fn names_of_a_text_are_words()
+    ensures { NamesOfATextAreWords }
+{}
+
+/// The empty catalog has no name that isn't a word, and a catalog of words stays one: after the entry of a statement
+/// with words that is accepted, and after its turn, however that ends.
+pub fn catalogs_keep_words()
+    ensures empty { AreWords empty_catalog }
+    ensures entry { EntriesKeepWords }
+    ensures turn { TurnsKeepWords }
+{}
+
+/// The reply to a statement with words can be printed, in a sound state whose catalog has words and whose numbers are
+/// below 2^64, at a moment below 2^64, where an answer has fewer than 2^64 rows.
+pub fn replies_are_printable()
+    ensures { RepliesArePrintable }
+{}
+
+/// The numbers of the empty state are below 2^64, and those of a state stay so, however a turn ends.
+pub fn states_stay_counted()
+    ensures empty { IsCounted empty_state }
+    ensures turn { StatesStayCounted }
+{}
+
+/// A report that tells the run of a script of statements with words, from a sound state with words on, can be printed,
+/// where the numbers of that state and of the report are below 2^64.
+pub fn told_reports_are_printable()
+    ensures { ToldReportsArePrintable }
+{}

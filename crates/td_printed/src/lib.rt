@@ -1,0 +1,23 @@
+//! [binding] What can be printed: laws of the names and numbers of statements, catalogs and replies.
+//!
+//! Nothing runs here. A report's text tells the report where its names are words, its header items aren't empty and
+//! have no comma, and its numbers fit. These laws say that what the rules give is so.
+//!
+//! - [`names_of_a_text_are_words`]: each name in the tree of a text is a word of letters, digits and `_`, and the cause
+//!   of a text without a tree can be printed.
+//! - [`catalogs_keep_words`]: a catalog whose names are words stays so, whatever a statement with words does.
+//! - [`replies_are_printable`]: in a sound state with such a catalog, the reply to such a statement can be printed.
+//! - [`states_stay_counted`]: the numbers of a state that replies show stay below 2^64.
+//! - [`told_reports_are_printable`]: so a report that tells the run of such statements can be printed.
+//!
+//! It stands on `td_parse`, `td_clauses` and `td_grammar` for the grammar of statements, on `td_lex` for tokens, on
+//! `td_told` and `td_verdict` for what a statement meets in a state, on `td_bind` for the soundness of histories, and
+//! on `td_model` for what can be printed.
+#![tactic(auto)]
+
+mod laws;
+
+pub use laws::{
+    catalogs_keep_words, names_of_a_text_are_words, replies_are_printable, states_stay_counted,
+    told_reports_are_printable,
+};
