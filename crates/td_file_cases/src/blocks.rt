@@ -42,8 +42,8 @@ fn word_of(kind: Kind) -> &'static [u8] {
     }
 }
 
-// Words of kinds with commas between them, or `-` for none.
-fn kinds_of(alloc: Global, words: &str) -> Result<Vec<Kind>, CaseFault> {
+/// Words of kinds with commas between them, or `-` for none.
+pub(crate) fn kinds_of(alloc: Global, words: &str) -> Result<Vec<Kind>, CaseFault> {
     let mut kinds = Vec::new(alloc);
     if words == "-" {
         return Ok(kinds);
@@ -64,7 +64,8 @@ fn push_fault(out: &mut Out, fault: BlockFault) -> Result<(), CaseFault> {
     }
 }
 
-fn push_number(out: &mut Out, word: &[u8], number: i128) {
+/// Adds a word and a number.
+pub(crate) fn push_number(out: &mut Out, word: &[u8], number: i128) {
     out.push(word);
     out.number(number);
 }
@@ -86,12 +87,14 @@ fn push_block(out: &mut Out, block: &Block) {
     push_number(out, b"table ", i128::from(block.table));
     push_number(out, b" used ", i128::from(block.used));
     for row in block.rows.as_slice() {
+        out.push(b"; ");
         push_row(out, row);
     }
 }
 
-fn push_row(out: &mut Out, row: &(u64, Partial)) {
-    push_number(out, b"; ", i128::from(row.0));
+/// Adds a row: its timestamp, its birth and its cells.
+pub(crate) fn push_row(out: &mut Out, row: &(u64, Partial)) {
+    push_number(out, b"", i128::from(row.0));
     push_number(out, b" born ", i128::from(row.1.birth.born));
     for cell in row.1.cells.as_slice() {
         push_cell(out, *cell);

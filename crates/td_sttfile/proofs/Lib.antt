@@ -1,1 +1,10 @@
 pub mod Adding
+pub mod Contents
+pub mod Headers
+pub mod Heads
+pub mod Numbers
+pub mod Openings
+pub mod Order
+pub mod States
+pub mod Tables
+pub mod Walks

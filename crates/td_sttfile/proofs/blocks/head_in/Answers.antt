@@ -1,0 +1,12 @@
+use Rattle.std.proofs.Common.{◌≤◌, length, arith, rules}
+use Rattle.td_sttfile.proofs.Heads.{head_place, is_head}
+use Rattle.td_sttfile.proofs.blocks.head_in.Goals as goal
+
+pub overflow_add-at : goal.overflow_add-at
+overflow_add-at g c =
+    let e = rw c.in-Err-Bad.field-0-is at c.in-Err-Bad.ensures in
+    let le : c.in-Err-Bad.place ≤ length c.args.part.now = head_place c.args.part.now c.in-Err-Bad.place e in
+    search (rules, arith)
+
+pub returns-in-Ok-clause-head : goal.returns-in-Ok-clause-head
+returns-in-Ok-clause-head g c = is_head c.args.part.now c.in-Ok.head (λ i. (c.type_inv.part i).fits) c.in-Ok.ensures
