@@ -1,10 +1,9 @@
 -- The tables of a catalog by number, and those that a query reads, found in two ways.
 use Rattle.std.proofs.Common.{inl, inr, ◌≡◌, ℕ, suc, ◌+◌, ◌-◌, ◌<◌, ◌≤◌, ◌==◌, ◌⊎◌, Bool, true, false, cond, ◌&&◌, List, [], ◌∷◌, ◌++◌, map, append-nil, map-id, filter, length, slice_get, Option, Some, None, is_some, refl, sym, ap, subst, ◌∙◌, arith, nat_lt, nat_eq}
-use Rattle.std.specs.List.{AllByRecursion, range_with_len}
+use Rattle.std.specs.List.{AllByRecursion}
 use Rattle.std.specs.Option.{option_map_or}
 use Rattle.std.proofs.lemmas.Option.{same_Some, slice_get_cases}
 use Rattle.std.proofs.lemmas.Bool.Decides.{nat_tests}
-use Rattle.std.proofs.lemmas.List.FromFn.{filter_of_map_range_with_len_more}
 use Rattle.std.proofs.lemmas.Bool.{eq-eqb, ne_eqb, cases_eq, and_parts}
 use Rattle.std.proofs.lemmas.List.Elements.{All-from_recursion, All-map}
 use Rattle.td_layer.specs.declared.values.Cell.{Cell}
@@ -14,6 +13,7 @@ use Rattle.td_model.specs.declared.language.Op.{Op}
 use Rattle.td_model.specs.Catalog.{Catalog, table_at}
 use Rattle.td_model.specs.Tags.{matching, cell_matches, tag_matches}
 use Rattle.td_catalog.specs.Kept.{IsNumbered}
+use Rattle.td_catalog.specs.Groups.{children_of}
 use Rattle.td_verdict.specs.declared.comparison.Comparison.{Comparison}
 use Rattle.td_verdict.specs.declared.source.Source.{Source}
 use Rattle.td_verdict.specs.declared.source.Source.TheVariants.{Table, Stable, Other}
@@ -59,22 +59,6 @@ known_at c e h =
 pub all_known : (c : Catalog) → AllByRecursion (IsKnown c) (all_tables c)
 all_known c = all_weaker (IsAt 1 c.tables) (IsKnown c) (known_at c) (all_tables c) (all_at 1 c.tables)
 
-pub numbers_of_all : (n : ℕ) (ts : List TableDef) → numbers_of (numbered n ts) ≡ range_with_len n (length ts)
-numbers_of_all n [] = refl
-numbers_of_all n (t ∷ ts) = ap (λ ns. n ∷ ns) (numbers_of_all (n + 1) ts)
-
-range_more : (p : ℕ → Bool) (i : ℕ) → filter p (range_with_len 1 (i + 1)) ≡ filter p (range_with_len 1 i) ++ cond (p (i + 1)) ((i + 1) ∷ []) []
-range_more p i =
-    let next : 1 + i ≡ i + 1 = omega arith in
-    let more : filter p (map (λ (k : ℕ). k) (range_with_len 1 (i + 1))) ≡ filter p (map (λ (k : ℕ). k) (range_with_len 1 i)) ++ cond (p (i + 1)) ((i + 1) ∷ []) [] = filter_of_map_range_with_len_more p (λ (k : ℕ). k) 1 i (i + 1) next in
-    ap (filter p) (sym (map-id (range_with_len 1 (i + 1)))) ∙ more ∙ ap (λ ks. filter p ks ++ cond (p (i + 1)) ((i + 1) ∷ []) []) (map-id (range_with_len 1 i))
-
-pub range_in : (p : ℕ → Bool) (i : ℕ) (xs : List ℕ) → xs ≡ filter p (range_with_len 1 i) → p (i + 1) ≡ true → xs ++ (i + 1) ∷ [] ≡ filter p (range_with_len 1 (i + 1))
-range_in p i xs h passes = ap (λ ys. ys ++ (i + 1) ∷ []) h ∙ sym (range_more p i ∙ ap (λ b. filter p (range_with_len 1 i) ++ cond b ((i + 1) ∷ []) []) passes)
-
-pub range_out : (p : ℕ → Bool) (i : ℕ) (xs : List ℕ) → xs ≡ filter p (range_with_len 1 i) → p (i + 1) ≡ false → xs ≡ filter p (range_with_len 1 (i + 1))
-range_out p i xs h fails = h ∙ sym (range_more p i ∙ ap (λ b. filter p (range_with_len 1 i) ++ cond b ((i + 1) ∷ []) []) fails ∙ append-nil (filter p (range_with_len 1 i)))
-
 -- the numbers of known tables are those of tables
 pub are_there : (c : Catalog) (es : List Numbered) → AllByRecursion (IsKnown c) es → AreThere c (numbers_of es)
 are_there c es h =
@@ -82,7 +66,7 @@ are_there c es h =
     (All-from_recursion (λ (e : Numbered). IsNumbered e.0 (length c.tables)) es (all_weaker (IsKnown c) (λ (e : Numbered). IsNumbered e.0 (length c.tables)) (λ e k. k.numbered) es h))
 
 -- a test by number, and what a table has by its number, at known tables
-kept_by_number : (c : Catalog) (f : TableDef → Bool) (es : List Numbered) → AllByRecursion (IsKnown c) es → filter (λ n. option_map_or f (table_at n c) false) (numbers_of es) ≡ numbers_of (filter (λ (e : Numbered). f e.1) es)
+pub kept_by_number : (c : Catalog) (f : TableDef → Bool) (es : List Numbered) → AllByRecursion (IsKnown c) es → filter (λ n. option_map_or f (table_at n c) false) (numbers_of es) ≡ numbers_of (filter (λ (e : Numbered). f e.1) es)
 kept_by_number c f es h =
     filter-map (λ (e : Numbered). e.0) (λ n. option_map_or f (table_at n c) false) es
     ∙ ap numbers_of (filter_agreeing (λ (e : Numbered). option_map_or f (table_at e.0 c) false) (λ (e : Numbered). f e.1) es (all_weaker (IsKnown c) (λ (e : Numbered). option_map_or f (table_at e.0 c) false ≡ f e.1) (λ e k. ap (λ o. option_map_or f o false) k.is) es h))
@@ -156,11 +140,24 @@ none_planned columns ps c = sym (ap numbers_of (none_kept (all_tables c)))
 
 -- ---- the subtables of a supertable
 
--- found among all tables
-pub planned_from_all : (stable columns : ℕ) (ps : List Comparison) (c : Catalog) → filter (is_planned stable columns ps c) (range_with_len 1 (length c.tables)) ≡ numbers_of (planned (Stable stable) columns ps c)
-planned_from_all stable columns ps c =
-    ap (filter (is_planned stable columns ps c)) (sym (numbers_of_all 1 c.tables))
-    ∙ kept_by_number c (λ (t : TableDef). is_under stable t && all_hold_of_table columns ps t.name t.tags) (all_tables c) (all_known c)
+-- found among the supertable's
+under : ℕ → Catalog → List Numbered
+under stable c = filter (λ (e : Numbered). is_under stable e.1) (all_tables c)
+
+under_known : (stable : ℕ) (c : Catalog) → AllByRecursion (IsKnown c) (under stable c)
+unfolding under
+under_known stable c = all-filter (IsKnown c) (λ (e : Numbered). is_under stable e.1) (all_tables c) (all_known c)
+
+pub children_there : (stable : ℕ) (c : Catalog) → AreThere c (children_of stable c.tables)
+unfolding under
+children_there stable c = are_there c (under stable c) (under_known stable c)
+
+pub planned_from_children : (stable columns : ℕ) (ps : List Comparison) (c : Catalog) → filter (is_planned stable columns ps c) (children_of stable c.tables) ≡ numbers_of (planned (Stable stable) columns ps c)
+unfolding under
+planned_from_children stable columns ps c =
+    kept_by_number c (λ (t : TableDef). is_under stable t && all_hold_of_table columns ps t.name t.tags) (under stable c) (under_known stable c)
+    ∙ ap numbers_of (filter_implied (λ (e : Numbered). is_under stable e.1 && all_hold_of_table columns ps e.1.name e.1.tags) (λ (e : Numbered). is_under stable e.1)
+    (λ e h. (and_parts (is_under stable e.1) (all_hold_of_table columns ps e.1.name e.1.tags) h).0) (all_tables c))
 
 -- the numbers that the index finds are those of known tables
 matched : ℕ → Op → Cell → Catalog → List Numbered
@@ -181,7 +178,7 @@ pub matching_there : (tag : ℕ) (p : Op) (lit : Cell) (c : Catalog) → AreTher
 matching_there tag p lit c = subst (AreThere c) (sym (matching_is tag p lit c)) (are_there c (matched tag p lit c) (matched_known tag p lit c))
 
 -- a comparison that is found first, or found among the rest
-first_or_rest : (b m x : Bool) (q p : Comparison) (rest : Option Comparison) → cond b (Some q) rest ≡ Some p → cond m x false ≡ true → ((q ≡ p) × (b ≡ true) × (m ≡ true)) ⊎ ((rest ≡ Some p) × (x ≡ true))
+pub first_or_rest : (b m x : Bool) (q p : Comparison) (rest : Option Comparison) → cond b (Some q) rest ≡ Some p → cond m x false ≡ true → ((q ≡ p) × (b ≡ true) × (m ≡ true)) ⊎ ((rest ≡ Some p) × (x ≡ true))
 first_or_rest true true x q p rest h k = inl (same_Some q p h, refl, refl)
 first_or_rest true false x q p rest h k = absurd (cc)
 first_or_rest false true x q p rest h k = inr (h, k)

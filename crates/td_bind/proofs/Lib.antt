@@ -3,6 +3,7 @@ pub mod Numbers
 pub mod Twice
 pub mod Filters
 pub mod ByNumber
+pub mod Named
 pub mod Planned
 pub mod Suited
 pub mod Read

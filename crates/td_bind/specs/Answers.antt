@@ -1,5 +1,5 @@
--- The verdict that an answer is: of a write, accepted as an entry with so many rows, or refused with a cause; of a query,
--- passed with a plan, or refused.
+-- The verdict that an answer is: of a write, accepted as an entry with so many rows, or refused with a cause; of a
+-- query, passed with a plan, or refused.
 use Rattle.std.specs.Prelude.{◌≡◌, ℕ, Some, None, Result, Ok, Err}
 use Rattle.td_model.specs.declared.catalog.Schema.{Schema}
 use Rattle.td_model.specs.declared.history.What.{What}

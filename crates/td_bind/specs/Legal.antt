@@ -8,7 +8,8 @@ use Rattle.td_model.specs.State.{State, newest, step}
 use Rattle.td_verdict.specs.Writes.{write_verdict}
 
 abbrev pub IsAccepted : State → Entry → Type 0
-IsAccepted s e = ((q : Stmt) × (rows : ℕ) × (write_verdict q s.catalog s.edge e.moment ≡ Accept e.what rows)) ⊎ (e.what ≡ Halt)
+IsAccepted s e =
+    ((q : Stmt) × (rows : ℕ) × (write_verdict q s.catalog s.edge e.moment ≡ Accept e.what rows)) ⊎ (e.what ≡ Halt)
 
 -- after the states so far, which stand with the newest first
 abbrev pub IsLegal : List State → List Entry → Type 0

@@ -51,13 +51,16 @@ put_said table first places said = record {
 
 -- where each column of a table has a place among some columns, it has its kind there
 abbrev pub HasKinds : List Column → List Column → Type 0
-HasKinds columns places = All (λ (c : Column). (i : ℕ) → place_of places c.name ≡ Some i → option_map (λ (d : Column). d.kind) (slice_get places i) ≡ Some c.kind) columns
+HasKinds columns places =
+    All (λ (c : Column). (i : ℕ) → place_of places c.name ≡ Some i
+    → option_map (λ (d : Column). d.kind) (slice_get places i) ≡ Some c.kind) columns
 
 -- the causes of groups that have the right length, read off what they say
 abbrev pub rows_said : List Column → List Column → List (List Said) → ℕ → Option Cause
 rows_said columns places groups edge = first_cause (
     when (nat_lt INSERT_ROWS (length groups)) (cause.TooMany many.Rows INSERT_ROWS)
-    ∷ when (list_any (λ said. is_before edge (time_said said (first_place columns places))) groups) (cause.BeforeEdge edge)
+    ∷ when (list_any (λ said. is_before edge (time_said said (first_place columns places))) groups)
+    (cause.BeforeEdge edge)
     ∷ [])
 
 abbrev pub said_cause : List Column → List Column → List (List Said) → ℕ → Option Cause

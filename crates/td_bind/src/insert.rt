@@ -164,7 +164,8 @@ fn bind_groups(
 ) -> Result<Result<(What, u32), Cause>, NoMem>
     requires time { lacks_time columns.now ≡ false }
     requires kinds { HasKinds columns.now places.now }
-    ensures { IfOk result (λ answer. verdict_of answer ≡ groups_verdict table columns.now places.now groups.now edge moment) }
+    ensures { IfOk result (λ answer. verdict_of answer
+        ≡ groups_verdict table columns.now places.now groups.now edge moment) }
 {
     if has_other_length(groups, places.len()) {
         return Ok(Err(Cause::Arity));
@@ -179,8 +180,8 @@ fn bind_groups(
     Ok(Ok((What::Put(puts), groups.len() as u32)))
 }
 
-// What INSERT meets in a catalog, at a retention edge and a moment in milliseconds since 1970. `names` are the columns that
-// it lists.
+// What INSERT meets in a catalog, at a retention edge and a moment in milliseconds since 1970. `names` are the columns
+// that it lists.
 pub(crate) fn bind_insert(
     alloc: Global,
     table: &Name,
@@ -190,7 +191,8 @@ pub(crate) fn bind_insert(
     edge: u32,
     moment: u64,
 ) -> Result<Result<(What, u32), Cause>, NoMem>
-    ensures { IfOk result (λ answer. verdict_of answer ≡ insert_verdict table.now (option_copied names.entry) groups.now edge moment catalog.now.catalog) }
+    ensures { IfOk result (λ answer. verdict_of answer
+        ≡ insert_verdict table.now (option_copied names.entry) groups.now edge moment catalog.now.catalog) }
 {
     if let Some(cause) = written_cause(table, catalog) {
         return Ok(Err(cause));

@@ -1,16 +1,18 @@
 //! [binding] The verdict of a write that is built, and of a row query with its plan.
 //!
-//! [`bind_write`] says what a write meets in a catalog, at a retention edge and a moment: accepted, as an entry of the history
-//! with its count of rows, or refused with the first cause that applies. It promises that this is the verdict of the
-//! definitions (`td_verdict`), that the catalog can take what is accepted, each value of a put being NULL or in the range of its
-//! column's kind, and that no row of it lies before the edge.
+//! [`bind_write`] says what a write meets in a catalog, at a retention edge and a moment: accepted, as an entry of the
+//! history with its count of rows, or refused with the first cause that applies. It promises that this is the verdict
+//! of the definitions (`td_verdict`), that the catalog can take what is accepted, each value of a put being NULL or in
+//! the range of its column's kind, and that no row of it lies before the edge.
 //!
-//! [`bind_query`] says what a row query meets: it passes with its plan, or is refused with the first cause that applies. It promises
-//! the verdict and the plan of the definitions, and that the plan is sound; the subtables that a condition on a tag leaves are
-//! found by the index of tags. That want of memory comes only where there is none is shown by tests, and by no contract.
+//! [`bind_query`] says what a row query meets: it passes with its plan, or is refused with the first cause that
+//! applies. It promises the verdict and the plan of the definitions, and that the plan is sound. A plan over a
+//! supertable is looked for at the table of a name, where a condition leaves one, or else among those that the index of
+//! tags gives, or else among the supertable's subtables; no clause says so. That want of memory comes only where there
+//! is none is shown by tests, and by no contract.
 //!
-//! It stands on `td_verdict` for the definitions, on `td_catalog` for names and schemas, on `td_tagidx` for tags, on `td_fields`
-//! for literals and names over a schema, and on `indexmap` for names that were seen before.
+//! It stands on `td_verdict` for the definitions, on `td_catalog` for names and schemas, on `td_tagidx` for tags, on
+//! `td_fields` for literals and names over a schema, and on `indexmap` for names that were seen before.
 #![tactic(auto)]
 
 mod columns;

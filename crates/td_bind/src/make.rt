@@ -89,7 +89,8 @@ pub(crate) fn bind_make_stable(
     tags: Option<&Seq<Column>>,
     catalog: &Catalog,
 ) -> Result<Result<(What, u32), Cause>, NoMem>
-    ensures { IfOk result (λ answer. verdict_of answer ≡ make_stable_verdict name.now columns.now (option_copied tags.entry) catalog.now.catalog) }
+    ensures { IfOk result (λ answer. verdict_of answer
+        ≡ make_stable_verdict name.now columns.now (option_copied tags.entry) catalog.now.catalog) }
 {
     let Some(tags) = tags else {
         return Ok(Err(Cause::NeedsTags));

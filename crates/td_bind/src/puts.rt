@@ -132,7 +132,9 @@ pub(crate) fn puts_of(
     places: &[Column],
     groups: &[Seq<Said>],
 ) -> Result<Seq<Put>, NoMem>
-    ensures { IfOk result (λ puts. puts ≡ map (put_said table (first_place columns.now places.now) (map (λ (c : Column). place_of places.now c.name) (drop 1 columns.now))) groups.now) }
+    ensures { IfOk result (λ puts. puts ≡ map
+        (put_said table (first_place columns.now places.now)
+        (map (λ (c : Column). place_of places.now c.name) (drop 1 columns.now))) groups.now) }
 {
     let all = places_of(alloc, places, behind_first(columns))?;
     let first = first_place(columns, places);

@@ -128,9 +128,9 @@ fn answer_of(
     }
 }
 
-/// What a row query meets in a catalog: its plan where it passes, or the first cause that applies. The index has the subtables
-/// of the catalog, each with its tags. The plan is sound, where no literal of the conditions is NOW. `Err(NoMem)` is want of
-/// memory.
+/// What a row query meets in a catalog: its plan where it passes, or the first cause that applies. The index has the
+/// subtables of the catalog, each with its tags. The plan is sound, where no literal of the conditions is NOW.
+/// `Err(NoMem)` is want of memory.
 pub fn bind_query(
     alloc: Global,
     query: &Query,

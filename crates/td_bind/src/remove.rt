@@ -52,7 +52,8 @@ pub(crate) fn bind_delete(
     catalog: &Catalog,
     moment: u64,
 ) -> Result<Result<(What, u32), Cause>, NoMem>
-    ensures { IfOk result (λ answer. verdict_of answer ≡ delete_verdict table.now column.now lo.now hi.now moment catalog.now.catalog) }
+    ensures { IfOk result (λ answer. verdict_of answer
+        ≡ delete_verdict table.now column.now lo.now hi.now moment catalog.now.catalog) }
 {
     if let Some(cause) = written_cause(table, catalog) {
         return Ok(Err(cause));
@@ -74,8 +75,8 @@ pub(crate) fn bind_delete(
     Ok(Ok((cut_of(number, lo, hi), 0)))
 }
 
-// What TRIM meets at a retention edge and a moment in milliseconds since 1970: the edge rises to the day range of the moment
-// 3650 days ago, and never falls.
+// What TRIM meets at a retention edge and a moment in milliseconds since 1970: the edge rises to the day range of the
+// moment 3650 days ago, and never falls.
 pub(crate) fn bind_trim(edge: u32, moment: u64) -> Result<(What, u32), Cause>
     requires { moment ≤ LAST_TIMESTAMP }
     ensures { verdict_of result ≡ trim_verdict edge moment }

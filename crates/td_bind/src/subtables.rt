@@ -65,7 +65,8 @@ pub(crate) fn bind_make_sub(
     catalog: &Catalog,
     moment: u64,
 ) -> Result<Result<(What, u32), Cause>, NoMem>
-    ensures { IfOk result (λ answer. verdict_of answer ≡ make_sub_verdict name.now stable.now tags.now moment catalog.now.catalog) }
+    ensures { IfOk result (λ answer. verdict_of answer
+        ≡ make_sub_verdict name.now stable.now tags.now moment catalog.now.catalog) }
 {
     let Some((number, schema)) = find_stable(catalog, stable) else {
         return Ok(Err(if is_taken(stable, catalog) {

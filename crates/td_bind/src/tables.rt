@@ -1,12 +1,11 @@
 //! The tables that a query reads.
-ghost use Rattle.std.specs.Prelude.{◌≡◌, ◌==◌, ◌<◌, ◌-◌, ◌+◌, ◌++◌, false, [], ◌∷◌, filter, map, length, IfOk, IfSome, IfNone, OnOk};
-ghost use Rattle.std.specs.List.{range_with_len};
-ghost use Rattle.std.specs.Option.{option_map, option_map_or, option_copied};
+ghost use Rattle.std.specs.Prelude.{◌≡◌, ◌==◌, ◌<◌, ◌-◌, ◌+◌, ◌++◌, false, [], ◌∷◌, filter, map, length, Some, IfOk, IfSome, IfNone, OnOk};
+ghost use Rattle.std.specs.Option.{option_map, option_map_or, option_copied, option_to_list};
 ghost use Rattle.td_catalog.specs.Kept.{IsNumbered};
 ghost use Rattle.td_model.specs.Tags.{matching};
 ghost use Rattle.td_verdict.specs.Plans.{subtables_of, holds_of_table, all_hold_of_table, planned};
 ghost use Rattle.td_verdict.specs.Queries.{source_of, source_schema};
-ghost use Rattle.td_bind.specs.Tables.{IsThere, numbers_of, is_planned, is_indexed, first_indexed, AreThere, tags_at, name_at, no_cells};
+ghost use Rattle.td_bind.specs.Tables.{IsThere, numbers_of, is_planned, is_indexed, first_indexed, is_equal, first_named, table_of_cell, AreThere, tags_at, name_at, no_cells};
 
 use crate::found::{find_stable, find_table};
 use std::alloc::Global;
@@ -18,6 +17,7 @@ use td_tagidx::TagIndex;
 use td_verdict::{Comparison, Source};
 
 // What a name names, a table or else a supertable, and its schema.
+#[tactic(auto, using(crate::proofs::Numbers::stable_numbered))]
 pub(crate) fn find_source<'a>(catalog: &'a Catalog, name: &Name) -> Option<(Source, &'a Schema)>
     ensures source { IfSome result (λ p. p.0 ≡ source_of name.now catalog.now.catalog) }
     ensures there { IfSome result (λ p. IsThere p.0 catalog.now.catalog) }
@@ -110,33 +110,13 @@ fn planned_among(
     tables: &[u32],
 ) -> Result<Seq<u32>, NoMem>
     requires { AreThere catalog.now.catalog tables.now }
-    ensures { IfOk result (λ planned. planned ≡ filter (is_planned stable columns comparisons.now catalog.now.catalog) tables.now) }
+    ensures { IfOk result (λ planned. planned
+        ≡ filter (is_planned stable columns comparisons.now catalog.now.catalog) tables.now) }
 {
     let mut planned = Seq::new(alloc);
     for table in tables {
         if is_planned(stable, columns, comparisons, catalog, *table) {
             planned.add(*table)?;
-        }
-    }
-    Ok(planned)
-}
-
-// Of all tables those subtables of a supertable whose tags pass all comparisons.
-#[tactic(auto, using(crate::proofs::ByNumber::range_in, crate::proofs::ByNumber::range_out))]
-fn planned_among_all(
-    alloc: Global,
-    stable: u32,
-    columns: usize,
-    comparisons: &[Comparison],
-    catalog: &Catalog,
-) -> Result<Seq<u32>, NoMem>
-    ensures { IfOk result (λ planned. planned ≡ filter (is_planned stable columns comparisons.now catalog.now.catalog) (range_with_len 1 (length catalog.now.catalog.tables))) }
-{
-    let mut planned = Seq::new(alloc);
-    for i in 0..catalog.tables() {
-        let table = i + 1;
-        if is_planned(stable, columns, comparisons, catalog, table) {
-            planned.add(table)?;
         }
     }
     Ok(planned)
@@ -163,15 +143,87 @@ fn first_indexed(columns: usize, comparisons: &[Comparison]) -> Option<&Comparis
 // The numbers of all subtables of which a comparison of a tag is true.
 fn found_by(tags: &TagIndex, columns: usize, comparison: &Comparison) -> Result<Seq<u32>, NoMem>
     requires { columns < comparison.now.place }
-    ensures { IfOk result (λ found. found ≡ matching (comparison.now.place - (columns + 1)) comparison.now.op comparison.now.operand tags.now.subtables) }
+    ensures { IfOk result (λ found. found ≡ matching (comparison.now.place - (columns + 1)) comparison.now.op
+        comparison.now.operand tags.now.subtables) }
 {
     let tag = tag_place(columns, comparison);
     let found = tags.find(tag, comparison.op, &comparison.operand)?;
     Ok(found)
 }
 
-// The subtables of a supertable of which all comparisons are true. The index gives those that may be among them, where it serves
-// for one of the comparisons, whichever place that has in the text.
+// Whether a comparison leaves only what equals its operand.
+fn is_equal(op: Op) -> bool
+    ensures { result ≡ is_equal op }
+{
+    match op {
+        Op::Eq => true,
+        Op::Lt | Op::Le | Op::Gt | Op::Ge | Op::Ne | Op::IsNull | Op::NotNull => false,
+    }
+}
+
+// The first comparison of the table's name that leaves one name.
+fn first_named(comparisons: &[Comparison]) -> Option<&Comparison>
+    ensures { option_copied result ≡ first_named comparisons.now }
+{
+    comparisons.iter().find(|comparison| comparison.place == 0 && is_equal(comparison.op))
+}
+
+// The number of the table whose name a cell is.
+fn table_of_cell(name: &Cell, catalog: &Catalog) -> Option<u32>
+    ensures { result ≡ table_of_cell name.now catalog.now.catalog }
+{
+    match name {
+        Cell::Str(name) => catalog.find_table(name),
+        Cell::Null | Cell::Truth(_) | Cell::Num(_) | Cell::Frac { .. } => None,
+    }
+}
+
+// The subtables of a supertable of which all comparisons are true, where one of those leaves a name: at most the table
+// of it.
+fn planned_named(
+    alloc: Global,
+    stable: u32,
+    columns: usize,
+    comparisons: &[Comparison],
+    catalog: &Catalog,
+    named: &Comparison,
+) -> Result<Seq<u32>, NoMem>
+    requires { first_named comparisons.now ≡ Some named.now }
+    ensures { IfOk result (λ tables. tables ≡ numbers_of
+        (planned (Source.Stable stable) columns comparisons.now catalog.now.catalog)) }
+{
+    catalog.is_valid();
+    let found = at_most_one(alloc, table_of_cell(&named.operand, catalog))?;
+    let found = found.as_slice();
+    let planned = planned_among(alloc, stable, columns, comparisons, catalog, found)?;
+    Ok(planned)
+}
+
+// The same, where the index serves for one of the comparisons: it gives those that may be among them.
+fn planned_indexed(
+    alloc: Global,
+    stable: u32,
+    columns: usize,
+    comparisons: &[Comparison],
+    catalog: &Catalog,
+    tags: &TagIndex,
+    first: &Comparison,
+) -> Result<Seq<u32>, NoMem>
+    requires subtables { tags.now.subtables ≡ subtables_of catalog.now.catalog }
+    requires first { first_indexed columns comparisons.now ≡ Some first.now }
+    requires tag { columns < first.now.place }
+    ensures { IfOk result (λ tables. tables ≡ numbers_of
+        (planned (Source.Stable stable) columns comparisons.now catalog.now.catalog)) }
+{
+    let found = found_by(tags, columns, first)?;
+    let found = found.as_slice();
+    let planned = planned_among(alloc, stable, columns, comparisons, catalog, found)?;
+    Ok(planned)
+}
+
+// The subtables of a supertable of which all comparisons are true. They are looked for at the one table of a name,
+// where a comparison leaves one; or else among those that the index gives, where it serves for one of the comparisons,
+// whichever place that has in the text; or else among all subtables of the supertable.
 fn planned_subtables(
     alloc: Global,
     stable: u32,
@@ -180,16 +232,21 @@ fn planned_subtables(
     catalog: &Catalog,
     tags: &TagIndex,
 ) -> Result<Seq<u32>, NoMem>
-    requires { tags.now.subtables ≡ subtables_of catalog.now.catalog }
-    ensures { IfOk result (λ tables. tables ≡ numbers_of (planned (Source.Stable stable) columns comparisons.now catalog.now.catalog)) }
+    requires subtables { tags.now.subtables ≡ subtables_of catalog.now.catalog }
+    requires there { IsNumbered stable (length catalog.now.catalog.stables) }
+    ensures { IfOk result (λ tables. tables ≡ numbers_of
+        (planned (Source.Stable stable) columns comparisons.now catalog.now.catalog)) }
 {
-    let Some(first) = first_indexed(columns, comparisons) else {
-        let planned = planned_among_all(alloc, stable, columns, comparisons, catalog)?;
+    if let Some(named) = first_named(comparisons) {
+        let planned = planned_named(alloc, stable, columns, comparisons, catalog, named)?;
         return Ok(planned);
-    };
-    let found = found_by(tags, columns, first)?;
-    let found = found.as_slice();
-    let planned = planned_among(alloc, stable, columns, comparisons, catalog, found)?;
+    }
+    if let Some(first) = first_indexed(columns, comparisons) {
+        let planned = planned_indexed(alloc, stable, columns, comparisons, catalog, tags, first)?;
+        return Ok(planned);
+    }
+    let all = catalog.subtables_of(stable);
+    let planned = planned_among(alloc, stable, columns, comparisons, catalog, all)?;
     Ok(planned)
 }
 
@@ -200,6 +257,19 @@ fn one(alloc: Global, table: u32) -> Result<Seq<u32>, NoMem>
     let mut tables = Seq::new(alloc);
     tables.add(table)?;
     Ok(tables)
+}
+
+// One table, or none.
+fn at_most_one(alloc: Global, table: Option<u32>) -> Result<Seq<u32>, NoMem>
+    ensures { IfOk result (λ tables. tables ≡ option_to_list table) }
+{
+    match table {
+        Some(table) => {
+            let tables = one(alloc, table)?;
+            Ok(tables)
+        }
+        None => Ok(Seq::new(alloc)),
+    }
 }
 
 // The numbers of the tables that a query reads, of a source whose tables have so many columns.

@@ -16,9 +16,9 @@ use td_layer::NoMem;
 use td_limits::LAST_TIMESTAMP;
 use td_model::{Cause, Stmt, What};
 
-/// What a write meets in a catalog, at a retention edge and a moment in milliseconds since 1970: accepted as an entry with
-/// its count of rows, or refused with the first cause that applies. The catalog can take what is accepted. `Err(NoMem)` is
-/// want of memory.
+/// What a write meets in a catalog, at a retention edge and a moment in milliseconds since 1970: accepted as an entry
+/// with its count of rows, or refused with the first cause that applies. The catalog can take what is accepted.
+/// `Err(NoMem)` is want of memory.
 pub fn bind_write(
     alloc: Global,
     stmt: &Stmt,
@@ -29,7 +29,8 @@ pub fn bind_write(
     requires write { IsTrue (is_write stmt.now) }
     requires built { IsTrue (is_built stmt.now) }
     requires moment { moment ≤ LAST_TIMESTAMP }
-    ensures verdict { IfOk result (λ answer. verdict_of answer ≡ write_verdict stmt.now catalog.now.catalog edge moment) }
+    ensures verdict { IfOk result (λ answer. verdict_of answer
+        ≡ write_verdict stmt.now catalog.now.catalog edge moment) }
     ensures follows { IfOk result (λ answer. IfOk answer (λ accepted. CanFollow accepted.0 catalog.now.catalog)) }
     ensures edge { IfOk result (λ answer. IfOk answer (λ accepted. IsFromEdge edge accepted.0)) }
 {

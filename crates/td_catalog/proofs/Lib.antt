@@ -4,4 +4,5 @@ pub mod Growth
 pub mod Fewer
 pub mod After
 pub mod Apart
+pub mod Children
 pub mod Valid

@@ -7,12 +7,25 @@ use Rattle.td_catalog.specs.declared.catalog.Catalog.TheInside.{Inside}
 use Rattle.td_verdict.specs.Valid.{IsValid}
 use Rattle.td_catalog.specs.Kept.{Kept}
 use Rattle.td_catalog.specs.Tables.{table_of, HasParent}
+use Rattle.td_catalog.specs.Groups.{AreGroups}
 
 abbrev pub catalog_of : Inside → Catalog
-catalog_of a = record { stables = values a.stables; tables = map table_of (values a.tables); streams = values a.streams; next_stream = a.next_stream }
+catalog_of a =
+    record {
+      stables = values a.stables;
+      tables = map table_of (values a.tables);
+      streams = values a.streams;
+      next_stream = a.next_stream;
+    }
 
 abbrev pub kept_of : Inside → Kept
-kept_of a = record { catalog = catalog_of a; stable_room = spare a.stables; table_room = spare a.tables; stream_room = min (spare a.streams) (spare a.targets) }
+kept_of a =
+    record {
+      catalog = catalog_of a;
+      stable_room = min (spare a.stables) a.groups.stable_room;
+      table_room = min (spare a.tables) a.groups.child_room;
+      stream_room = min (spare a.streams) (spare a.targets);
+    }
 
 -- the targets of the streams, with their numbers, in the order of the streams
 abbrev pub AreTargets : {K L : Type 0} → (K → List ℕ) → List (L × StreamEntry) → List (K × ℕ) → Type 0
@@ -21,7 +34,8 @@ AreTargets read [] (t ∷ ts) = ⊥
 AreTargets read (e ∷ es) [] = ⊥
 AreTargets read (e ∷ es) (t ∷ ts) = (read t.0 ≡ e.1.def.target) × (t.1 ≡ e.1.number) × AreTargets read es ts
 
--- each is kept under its name, each number fits in 32 bits, and the catalog is valid
+-- each is kept under its name, the subtables of each supertable are known, each number fits in 32 bits, and the catalog
+-- is valid
 pub record IsInOrder (a : Inside) : Type 0 where
   pub stables : All (λ e. e.0.items ≡ e.1.name) a.stables.entries
   pub tables : All (λ e. e.0.items ≡ e.1.name) a.tables.entries
@@ -32,4 +46,5 @@ pub record IsInOrder (a : Inside) : Type 0 where
   pub table_count : length a.tables.entries < 2 ^ 32
   pub stream_count : length a.streams.entries < a.next_stream
   pub next_fits : a.next_stream < 2 ^ 32
+  pub groups : AreGroups (length (values a.stables)) (map table_of (values a.tables)) a.groups.lists
   pub valid : IsValid (catalog_of a)

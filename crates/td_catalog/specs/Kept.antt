@@ -24,14 +24,20 @@ pub record IsFree (name : List ℕ) (c : Catalog) : Type 0 where
 abbrev pub IsNumbered : ℕ → ℕ → Type 0
 IsNumbered n count = (1 ≤ n) × (n ≤ count)
 
--- What an entry is that may come after a catalog: a new name is free, a schema is well formed, a supertable that is named is
--- there and has a tag for each cell, puts and cuts are of tables that are there, and there is place for what is added.
+-- What an entry is that may come after a catalog: a new name is free, a schema is well formed, a supertable that is
+-- named is there and has a tag for each cell, puts and cuts are of tables that are there, and there is place for what
+-- is added.
 abbrev pub CanFollow : What → Catalog → Type 0
-CanFollow (what.MakeStable name schema) c = IsFree name c × IsSchema schema.columns schema.tags × (length c.tables + length c.stables < TABLES)
-CanFollow (what.MakeTable name columns) c = IsFree name c × IsSchema columns [] × (length c.tables + length c.stables < TABLES)
+CanFollow (what.MakeStable name schema) c =
+    IsFree name c × IsSchema schema.columns schema.tags × (length c.tables + length c.stables < TABLES)
+CanFollow (what.MakeTable name columns) c =
+    IsFree name c × IsSchema columns [] × (length c.tables + length c.stables < TABLES)
 CanFollow (what.MakeSub name stable tags) c =
-    IsFree name c × IsNumbered stable (length c.stables) × AreTags (schema_or_none (stable_at stable c)).tags tags × (length c.tables + length c.stables < TABLES)
-CanFollow (what.MakeStream def) c = (stream_named def.name c ≡ None) × IsFree def.target c × (length c.streams < STREAMS) × (c.next_stream ≤ LAST_STREAM_NUMBER)
+    IsFree name c × IsNumbered stable (length c.stables) × AreTags (schema_or_none (stable_at stable c)).tags tags
+    × (length c.tables + length c.stables < TABLES)
+CanFollow (what.MakeStream def) c =
+    (stream_named def.name c ≡ None) × IsFree def.target c × (length c.streams < STREAMS)
+    × (c.next_stream ≤ LAST_STREAM_NUMBER)
 CanFollow (what.Put puts) c = All (IsPut c) puts
 CanFollow (what.Cut table lo hi) c = IsCut c table lo hi
 CanFollow (what.DropStream n) c = ⊤

@@ -5,15 +5,17 @@ ghost use Rattle.td_model.specs.Catalog.{empty_catalog, stable_named, table_name
 ghost use Rattle.td_verdict.specs.Valid.{IsValid};
 ghost use Rattle.td_catalog.specs.Kept.{IsNumbered};
 ghost use Rattle.td_catalog.specs.Tables.{table_of, HasParent};
+ghost use Rattle.td_catalog.specs.Groups.{children_of};
 
+use crate::groups::Groups;
 use indexmap::IndexMap;
 use std::alloc::Global;
 use std::marker::Model;
 use td_layer::{Cell, Name, Seq};
 use td_model::{Schema, StableDef, StreamDef, StreamEntry};
 
-// A table as it is kept. A plain table has a schema without tags, and a subtable, whose schema is its supertable's, an empty
-// one.
+// A table as it is kept. A plain table has a schema without tags, and a subtable, whose schema is its supertable's, an
+// empty one.
 #[derive(Drop)]
 pub(crate) struct Table {
     pub(crate) name: Name,
@@ -22,13 +24,15 @@ pub(crate) struct Table {
     pub(crate) tags: Seq<Cell>,
 }
 
-/// Supertables and tables, numbered from 1 in the order of their creation, the live streams in that order, and the number that
-/// the next stream gets. Contracts see the catalog that it keeps, and the room that it has.
+/// Supertables and tables, numbered from 1 in the order of their creation, the live streams in that order, and the
+/// number that the next stream gets. Contracts see the catalog that it keeps, and the room that it has.
 #[derive(Drop)]
 pub struct Catalog {
     pub(crate) alloc: Global,
     pub(crate) stables: IndexMap<Vec<u8>, StableDef>,
     pub(crate) tables: IndexMap<Vec<u8>, Table>,
+    // the subtables of each supertable
+    pub(crate) groups: Groups,
     pub(crate) streams: IndexMap<Vec<u8>, StreamEntry>,
     // the number of the stream of each target, in the order of the streams
     pub(crate) targets: IndexMap<Vec<u8>, u32>,
@@ -77,14 +81,15 @@ impl Catalog {
             alloc,
             stables: IndexMap::new(alloc),
             tables: IndexMap::new(alloc),
+            groups: Groups::empty(alloc),
             streams: IndexMap::new(alloc),
             targets: IndexMap::new(alloc),
             next_stream: 1,
         }
     }
 
-    /// The catalog is valid: names are apart, each schema is well formed, and each subtable has a cell for each tag of its
-    /// supertable. It does nothing.
+    /// The catalog is valid: names are apart, each schema is well formed, and each subtable has a cell for each tag of
+    /// its supertable. It does nothing.
     pub fn is_valid(&self)
         ensures { IsValid self.now.catalog }
     {
@@ -170,6 +175,14 @@ impl Catalog {
         ensures { option_map (λ s. s.schema) (stable_at stable self.now.catalog) ≡ Some result.now }
     {
         &self.stable_at(stable).schema
+    }
+
+    /// The numbers of the subtables of a supertable, rising: of exactly those tables whose supertable it is.
+    pub fn subtables_of(&self, stable: u32) -> &[u32]
+        requires { IsNumbered stable (length self.now.catalog.stables) }
+        ensures { result.now ≡ children_of stable self.now.catalog.tables }
+    {
+        self.groups.of(stable)
     }
 
     /// How many tables there are.

@@ -35,8 +35,8 @@ pub(crate) enum Part {
     Dropped(u32),
 }
 
-/// What an entry changes in the catalog, with the memory that it needs. Contracts see the part of the entry that a catalog
-/// keeps, or none. A change that isn't applied is dropped.
+/// What an entry changes in the catalog, with the memory that it needs. Contracts see the part of the entry that a
+/// catalog keeps, or none. A change that isn't applied is dropped.
 #[derive(Drop)]
 pub struct Change {
     pub(crate) part: Part,

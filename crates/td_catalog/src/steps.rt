@@ -15,8 +15,8 @@ use td_layer::{Name, NoMem, Seq};
 use td_model::{Entry, Schema, StableDef, StreamDef, StreamEntry, What};
 
 impl Catalog {
-    /// Takes the memory that an entry needs, and gives its change, which [`Catalog::apply`] can then make without memory. The
-    /// catalog stays as it is, also where there is no memory.
+    /// Takes the memory that an entry needs, and gives its change, which [`Catalog::apply`] can then make without
+    /// memory. The catalog stays as it is, also where there is no memory.
     pub fn prepare(&mut self, entry: &Entry) -> Result<Change, NoMem>
         requires { CanFollow entry.now.what self.old.catalog }
         ensures unchanged { self.new.catalog ≡ self.old.catalog }
@@ -28,8 +28,8 @@ impl Catalog {
         Ok(Change { part })
     }
 
-    /// Makes the change that the last [`Catalog::prepare`] gave, where the next stream number wasn't set since. It takes no
-    /// memory.
+    /// Makes the change that the last [`Catalog::prepare`] gave, where the next stream number wasn't set since. It
+    /// takes no memory.
     pub fn apply(&mut self, change: Change)
         requires { IsReadyFor change self.old }
         ensures changed { self.new.catalog ≡ changed change self.old.catalog }
@@ -98,8 +98,14 @@ impl Catalog {
         ensures room { OnOk result (HasRoom what.now self.new) }
     {
         match what {
-            What::MakeStable { .. } => self.stables.reserve(1)?,
-            What::MakeTable { .. } | What::MakeSub { .. } => self.tables.reserve(1)?,
+            What::MakeStable { .. } => {
+                self.groups.make_room()?;
+                self.stables.reserve(1)?;
+            }
+            What::MakeTable { .. } | What::MakeSub { .. } => {
+                self.groups.make_room()?;
+                self.tables.reserve(1)?;
+            }
             What::MakeStream(_) => {
                 self.streams.reserve(1)?;
                 self.targets.reserve(1)?;
@@ -118,6 +124,7 @@ impl Catalog {
         requires room { 0 < self.old.stable_room }
         ensures { self.new.catalog ≡ record self.old.catalog { stables = self.old.catalog.stables ++ def ∷ [] } }
     {
+        self.groups.add_group();
         self.stables.insert(key, def).unwrap();
     }
 
@@ -129,8 +136,11 @@ impl Catalog {
         requires count { length self.old.catalog.tables + 1 < 2 ^ 32 }
         requires valid { IsValid (record self.old.catalog { tables = self.old.catalog.tables ++ table_of table ∷ [] }) }
         requires room { 0 < self.old.table_room }
-        ensures { self.new.catalog ≡ record self.old.catalog { tables = self.old.catalog.tables ++ table_of table ∷ [] } }
+        ensures { self.new.catalog ≡ record self.old.catalog
+            { tables = self.old.catalog.tables ++ table_of table ∷ [] } }
     {
+        let number = self.tables.len() as u32 + 1;
+        self.groups.add(table.parent, number);
         self.tables.insert(key, table).unwrap();
     }
 

@@ -4,8 +4,9 @@
 //! no case. `settings` has the settings, `cases` the notation of long scripts, `playing` the devices and the call.
 //! Below its head a case shows the report as it was written, and a line with the exit number, how many bytes were
 //! written, and the line on standard error, if there is one. The reports beside which these are compared were worked
-//! out by hand. A case may begin with a store of its own, or with the one that the case before left. It stands on `td_top`, whose
-//! calls it asks, on `td_core` for the files that a status names, on `td_memdev` for the devices, and on `td_cases`.
+//! out by hand. A case may begin with a store of its own, or with the one that the case before left. It stands on
+//! `td_top`, whose calls it asks, on `td_core` for the files that a status names, on `td_memdev` for the devices, and
+//! on `td_cases`.
 #![tactic(auto)]
 
 mod cases;

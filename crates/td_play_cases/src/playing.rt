@@ -14,8 +14,8 @@ use td_limits::LAST_TIMESTAMP;
 use td_memdev::{FreeGate, MemPlace, MemSink, MemSource, MemStore, Ticks};
 use td_top::{Status, play, vnode};
 
-/// Plays a case, adds the report and the line of its status, and gives the store as it was left. It is played on the store that is
-/// given, if the case wants that.
+/// Plays a case, adds the report and the line of its status, and gives the store as it was left. It is played on the
+/// store that is given, if the case wants that.
 pub(crate) fn push_play<R: Threads + Wait + Sync>(
     out: &mut Out,
     rt: &R,

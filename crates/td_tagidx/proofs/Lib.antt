@@ -1,5 +1,5 @@
 pub mod Ordered
 pub mod Bags
-pub mod Points
+pub mod Filed
 pub mod Found
 pub mod Answer

@@ -8,7 +8,6 @@ use Rattle.std.specs.BTreeMap.{insert_entry, is_at}
 use Rattle.std.specs.declared.cmp.Ordering.TheVariants.{Less, Greater}
 use Rattle.std.proofs.lemmas.Bool.{cases_order}
 use Rattle.std.proofs.lemmas.Bool.Decides.{nat_tests}
-use Rattle.td_layer.specs.declared.values.Cell.{Cell}
 use Rattle.td_tagidx.specs.declared.index.Subtable.{Subtable}
 use Rattle.td_tagidx.specs.Subtables.{subtable_of}
 

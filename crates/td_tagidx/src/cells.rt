@@ -1,6 +1,6 @@
 //! The order of the cells of tags.
 ghost use Rattle.std.specs.Prelude.{◌≡◌};
-ghost use Rattle.td_tagidx.specs.Slots.{kind_of, is_comparable, number_or_nought, text_or_empty};
+ghost use Rattle.td_tagidx.specs.Order.{kind_of, is_comparable, number_or_nought, text_or_empty};
 
 use td_cells::number_of;
 use td_layer::Cell;

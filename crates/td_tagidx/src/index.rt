@@ -9,8 +9,10 @@ ghost use Rattle.td_tagidx.specs.Inside.{IsFiled};
 ghost use Rattle.td_tagidx.specs.Runs.{edges_of};
 
 use crate::cells::is_comparable;
-use crate::slots::{Edge, Slot, between, put_all, slots_of, tables_of};
+use crate::order::{Mark, Slot};
+use crate::slots::{put_all, tables_between};
 use std::alloc::Global;
+use std::collections::BTreeSet;
 use std::marker::Model;
 use td_cells::tag_matches;
 use td_layer::{Cell, Copied, NoMem, Seq};
@@ -23,8 +25,8 @@ pub(crate) struct Subtable {
     pub(crate) tags: Seq<Cell>,
 }
 
-/// A subtable's tags, in the memory that the index needs for them. Contracts see its number and its tags. A change that isn't
-/// made is dropped.
+/// A subtable's tags, in the memory that the index needs for them. Contracts see its number and its tags. A change that
+/// isn't made is dropped.
 #[derive(Drop)]
 pub struct TagChange {
     subtable: Subtable,
@@ -41,14 +43,15 @@ impl Model for TagChange {
     ghost view = { λ a. subtable_of a.subtable };
 }
 
-/// The tags of subtables. Contracts see the subtables with their tags, in number order, and the room that there is for more.
+/// The tags of subtables. Contracts see the subtables with their tags, in number order, and the room that there is for
+/// more.
 #[derive(Drop)]
 pub struct TagIndex {
     alloc: Global,
     // all subtables but the last one added, by number
     subtables: Vec<Subtable>,
     // their tags, by cell
-    slots: Vec<Slot>,
+    slots: BTreeSet<Slot>,
     // the last one added, until the next change is prepared: so `add` takes no memory
     last: Option<Subtable>,
 }
@@ -73,15 +76,16 @@ impl TagIndex {
         TagIndex {
             alloc,
             subtables: Vec::new(alloc),
-            slots: Vec::new(alloc),
+            slots: BTreeSet::new(alloc),
             last: None,
         }
     }
 
-    /// Takes the memory that adding a subtable needs, and gives the change that [`TagIndex::add`] can then make without memory. The
-    /// index keeps its subtables, also where there is no memory.
+    /// Takes the memory that adding a subtable needs, and gives the change that [`TagIndex::add`] can then make without
+    /// memory. The index keeps its subtables, also where there is no memory.
     ///
-    /// The subtable added before is put in order now, with its tags: each moves those behind it.
+    /// The subtable added before is put in order now, and its tags among those of all others: that takes time that
+    /// grows with the number of its tags, and with the logarithm of the number of all.
     pub fn prepare(&mut self, table: u32, tags: &[Cell]) -> Result<TagChange, NoMem>
         requires { IsAbsent table self.old.subtables }
         ensures unchanged { self.new.subtables ≡ self.old.subtables }
@@ -104,11 +108,11 @@ impl TagIndex {
         self.last = Some(subtable);
     }
 
-    /// The numbers of the subtables that have a tag at a place, from 0, which passes a comparison, in number order. `IsNull` and
-    /// `NotNull` don't look at the literal.
+    /// The numbers of the subtables that have a tag at a place, from 0, which passes a comparison, in number order.
+    /// `IsNull` and `NotNull` don't look at the literal.
     ///
-    /// By `=`, `<`, `<=`, `>` and `>=` it takes time that grows with the answer, which is sorted, and with the logarithm of the
-    /// number of tags; by the others, with the number of subtables.
+    /// By `=`, `<`, `<=`, `>` and `>=` it takes time that grows with the answer, which is sorted, and with the
+    /// logarithm of the number of tags; by the others, with the number of subtables.
     pub fn find(&self, tag: usize, op: Op, lit: &Cell) -> Result<Seq<u32>, NoMem>
         ensures { IfOk result (λ numbers. numbers ≡ matching tag op lit.now self.now.subtables) }
     {
@@ -127,15 +131,13 @@ impl TagIndex {
         ensures unchanged { self.new.subtables ≡ self.old.subtables }
         ensures room { OnOk result (0 < self.new.room) }
     {
-        let slots = match &self.last {
-            None => return Ok(()),
-            Some(last) => slots_of(self.alloc, last.table, &last.tags)?,
+        let Some(last) = &self.last else {
+            return Ok(());
         };
         self.subtables.reserve(1)?;
-        self.slots.reserve(slots.len())?;
+        put_all(&mut self.slots, last.table, last.tags.as_slice())?;
         if let Some(last) = self.last.take() {
             put_subtable(&mut self.subtables, last);
-            put_all(&mut self.slots, slots);
         }
         Ok(())
     }
@@ -147,7 +149,8 @@ fn put_subtable(subtables: &mut Vec<Subtable>, subtable: Subtable)
     requires absent { IsAbsent subtable.table (map subtable_of subtables.old.items) }
     requires room { vec_len subtables.old < vec_capacity subtables.old }
     ensures numbered { IsSortedByKey (λ s. s.table) nat_cmp subtables.new.items }
-    ensures put { map subtable_of subtables.new.items ≡ with_subtable (subtable_of subtable) (map subtable_of subtables.old.items) }
+    ensures put { map subtable_of subtables.new.items
+        ≡ with_subtable (subtable_of subtable) (map subtable_of subtables.old.items) }
     ensures same { (f : Subtable → ℕ) → sum_by f subtables.new.items ≡ f subtable + sum_by f subtables.old.items }
 {
     let table = subtable.table;
@@ -159,31 +162,44 @@ fn put_subtable(subtables: &mut Vec<Subtable>, subtable: Subtable)
 fn found(
     alloc: Global,
     subtables: &[Subtable],
-    slots: &[Slot],
+    slots: &BTreeSet<Slot>,
     tag: usize,
     op: Op,
     lit: &Cell,
 ) -> Result<Vec<u32>, NoMem>
-    requires { IsFiled subtables.now slots.now }
+    requires { IsFiled subtables.now slots.now.keys }
     ensures { IfOk result (λ numbers. HasSame numbers.items (matching tag op lit.now (map subtable_of subtables.now))) }
 {
     match edges_of(op) {
         None => picked(alloc, subtables, tag, op, lit),
         Some(_) if !is_comparable(lit) => Ok(Vec::new(alloc)),
-        Some((from, to)) => tables_of(alloc, between(slots, from, to, tag, lit)),
+        Some((from, to)) => {
+            let (start, end) = (lit.copy()?, lit.copy()?);
+            let from = Slot {
+                place: tag,
+                cell: start,
+                mark: from,
+            };
+            let to = Slot {
+                place: tag,
+                cell: end,
+                mark: to,
+            };
+            tables_between(alloc, slots, &from, &to)
+        }
     }
 }
 
-// The edges of the tags that pass a comparison with a cell, where they lie together.
-fn edges_of(op: Op) -> Option<(Edge, Edge)>
+// The marks between which the tags lie that pass a comparison with a cell, where they lie together.
+fn edges_of(op: Op) -> Option<(Mark, Mark)>
     ensures { result ≡ edges_of op }
 {
     match op {
-        Op::Lt => Some((Edge::KindStart, Edge::CellStart)),
-        Op::Le => Some((Edge::KindStart, Edge::CellEnd)),
-        Op::Eq => Some((Edge::CellStart, Edge::CellEnd)),
-        Op::Ge => Some((Edge::CellStart, Edge::KindEnd)),
-        Op::Gt => Some((Edge::CellEnd, Edge::KindEnd)),
+        Op::Lt => Some((Mark::KindStart, Mark::CellStart)),
+        Op::Le => Some((Mark::KindStart, Mark::CellEnd)),
+        Op::Eq => Some((Mark::CellStart, Mark::CellEnd)),
+        Op::Ge => Some((Mark::CellStart, Mark::KindEnd)),
+        Op::Gt => Some((Mark::CellEnd, Mark::KindEnd)),
         Op::Ne | Op::IsNull | Op::NotNull => None,
     }
 }

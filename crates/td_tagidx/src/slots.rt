@@ -1,130 +1,58 @@
-//! The tags of subtables one by one, in the order of their cells.
-ghost use Rattle.std.specs.Prelude.{◌≡◌, ℕ, ◌+◌, ◌≤◌, ◌<◌, map, length, vec_len, vec_capacity, IfOk, sum_by};
-ghost use Rattle.td_tagidx.specs.Slots.{kind_order, tag_order, precedes, between, slots_of, slots_from, IsInTagOrder, IsCountBefore};
+//! The slots of subtables, kept in their order.
+ghost use Rattle.std.specs.Prelude.{◌≡◌, ℕ, ◌+◌, map, IfOk, OnOk, OnErr, sum_by};
+ghost use Rattle.std.specs.BTreeSet.{insert_key};
+ghost use Rattle.std.specs.declared.cmp.Ordering.TheVariants.{Less};
+ghost use Rattle.td_tagidx.specs.Order.{slot_cmp, table_of};
+ghost use Rattle.td_tagidx.specs.Slots.{between, slots_from, of_others};
 
-use crate::cells::{kind_of, number_or_nought, text_or_empty};
+use crate::order::{Mark, Slot, table_of};
 use std::alloc::Global;
-use std::cmp::Ordering;
-use td_layer::{Cell, Copied, NoMem, Seq};
+use std::collections::BTreeSet;
+use std::ops::Bound;
+use td_layer::{Cell, Copied, NoMem};
 
-// A tag of a subtable: its place among the subtable's tags, from 0, its cell, and the subtable's number.
-#[derive(Drop)]
-pub(crate) struct Slot {
-    pub(crate) place: usize,
-    pub(crate) cell: Cell,
-    pub(crate) table: u32,
-}
-
-// Where a run of slots begins or ends, for a cell at a place: before or behind all cells of its kind there, or before or
-// behind those that equal it.
-#[derive(Clone, Copy)]
-pub(crate) enum Edge {
-    KindStart,
-    KindEnd,
-    CellStart,
-    CellEnd,
-}
-
-// The order of a slot and a cell at a place, by the place and the cell's kind.
-fn kind_order(slot: &Slot, place: usize, cell: &Cell) -> Ordering
-    ensures { result ≡ kind_order (slot.now.place, slot.now.cell) (place, cell.now) }
-{
-    let kinds = kind_of(&slot.cell).cmp(&kind_of(cell));
-    slot.place.cmp(&place).then(kinds)
-}
-
-// The order of a slot and a cell at a place, by the place, the cell's kind and the cell.
-fn tag_order(slot: &Slot, place: usize, cell: &Cell) -> Ordering
-    ensures { result ≡ tag_order (slot.now.place, slot.now.cell) (place, cell.now) }
-{
-    let numbers = number_or_nought(&slot.cell).cmp(&number_or_nought(cell));
-    let texts = text_or_empty(&slot.cell).cmp(&text_or_empty(cell));
-    kind_order(slot, place, cell).then(numbers.then(texts))
-}
-
-// Whether a slot lies before an edge.
-fn precedes(slot: &Slot, edge: Edge, place: usize, cell: &Cell) -> bool
-    ensures { result ≡ precedes edge (place, cell.now) slot.now }
-{
-    match edge {
-        Edge::KindStart => kind_order(slot, place, cell).is_lt(),
-        Edge::KindEnd => kind_order(slot, place, cell).is_le(),
-        Edge::CellStart => tag_order(slot, place, cell).is_lt(),
-        Edge::CellEnd => tag_order(slot, place, cell).is_le(),
-    }
-}
-
-// How many slots lie before an edge. It takes steps by the logarithm of their number.
-fn count_before(slots: &[Slot], edge: Edge, place: usize, cell: &Cell) -> usize
-    requires { IsInTagOrder slots.now }
-    ensures bound { result ≤ length slots.now }
-    ensures split { IsCountBefore edge (place, cell.now) slots.now result }
-{
-    slots.partition_point(|slot| precedes(slot, edge, place, cell))
-}
-
-// The slots between two edges.
-pub(crate) fn between<'a>(
-    slots: &'a [Slot],
-    from: Edge,
-    to: Edge,
-    place: usize,
-    cell: &Cell,
-) -> &'a [Slot]
-    requires { IsInTagOrder slots.now }
-    ensures { result.now ≡ between from to (place, cell.now) slots.now }
-{
-    let start = count_before(slots, from, place, cell);
-    let rest = &slots[start..];
-    let end = count_before(rest, to, place, cell);
-    &rest[..end]
-}
-
-// The numbers of slots' subtables.
-pub(crate) fn tables_of(alloc: Global, slots: &[Slot]) -> Result<Vec<u32>, NoMem>
-    ensures { IfOk result (λ tables. tables.items ≡ map (λ s. s.table) slots.now) }
+// The numbers of the subtables of the slots between two others, in their order.
+pub(crate) fn tables_between(
+    alloc: Global,
+    slots: &BTreeSet<Slot>,
+    from: &Slot,
+    to: &Slot,
+) -> Result<Vec<u32>, NoMem>
+    requires { slot_cmp from.now to.now ≡ Less }
+    ensures { IfOk result (λ tables. tables.items
+        ≡ map (λ s. table_of s.mark) (between from.now to.now slots.now.keys)) }
 {
     let mut tables = Vec::new(alloc);
-    for slot in slots {
-        tables.push(slot.table)?;
+    for slot in slots.range((Bound::Excluded(from), Bound::Excluded(to))) {
+        tables.push(table_of(slot.mark))?;
     }
     Ok(tables)
 }
 
-// The slots of a subtable.
-pub(crate) fn slots_of(alloc: Global, table: u32, tags: &Seq<Cell>) -> Result<Vec<Slot>, NoMem>
-    ensures { IfOk result (λ slots. slots.items ≡ slots_from table 0 tags.now) }
+// Puts the slot of a cell at a place among others.
+fn put(slots: &mut BTreeSet<Slot>, table: u32, place: usize, cell: &Cell) -> Result<(), NoMem>
+    ensures put { OnOk result (slots.new.keys
+        ≡ insert_key slot_cmp slots.old.keys (record { place = place; cell = cell.now; mark = Mark.Table table })) }
+    ensures kept { OnErr result (slots.new.keys ≡ slots.old.keys) }
 {
-    let mut slots = Vec::new(alloc);
-    let cells = tags.as_slice();
+    let cell = cell.copy()?;
+    let mark = Mark::Table(table);
+    slots.insert(Slot { place, cell, mark })?;
+    Ok(())
+}
+
+// Puts the slots of a subtable's cells among those of others. Where there is no memory none is put.
+pub(crate) fn put_all(slots: &mut BTreeSet<Slot>, table: u32, cells: &[Cell]) -> Result<(), NoMem>
+    requires { of_others table slots.old.keys ≡ slots.old.keys }
+    ensures put { OnOk result ((f : Slot → ℕ)
+        → sum_by f slots.new.keys ≡ sum_by f (slots_from table 0 cells.now) + sum_by f slots.old.keys) }
+    ensures kept { OnErr result (slots.new.keys ≡ slots.old.keys) }
+{
     for place in 0..cells.len() {
-        let cell = cells[place].copy()?;
-        slots.push(Slot { place, cell, table })?;
+        if let Err(failed) = put(slots, table, place, &cells[place]) {
+            slots.retain(|slot| table_of(slot.mark) != table);
+            return Err(failed);
+        }
     }
-    Ok(slots)
-}
-
-// Puts a slot behind those that come before it or are equal to it, where there is room.
-fn put(slots: &mut Vec<Slot>, slot: Slot)
-    requires order { IsInTagOrder slots.old.items }
-    requires room { vec_len slots.old < vec_capacity slots.old }
-    ensures order { IsInTagOrder slots.new.items }
-    ensures same { (f : Slot → ℕ) → sum_by f slots.new.items ≡ f slot + sum_by f slots.old.items }
-    ensures len { vec_len slots.new ≡ vec_len slots.old + 1 }
-    ensures capacity { vec_capacity slots.new ≡ vec_capacity slots.old }
-{
-    let at = count_before(slots.as_slice(), Edge::CellEnd, slot.place, &slot.cell);
-    slots.insert(at, slot).unwrap();
-}
-
-// Puts slots in their places, where there is room for them all.
-pub(crate) fn put_all(slots: &mut Vec<Slot>, mut more: Vec<Slot>)
-    requires order { IsInTagOrder slots.old.items }
-    requires room { vec_len slots.old + vec_len more ≤ vec_capacity slots.old }
-    ensures order { IsInTagOrder slots.new.items }
-    ensures same { (f : Slot → ℕ) → sum_by f slots.new.items ≡ sum_by f slots.old.items + sum_by f more.items }
-{
-    while let Some(slot) = more.pop() {
-        put(slots, slot);
-    }
+    Ok(())
 }

@@ -1,10 +1,13 @@
-use Rattle.std.proofs.Common.{◌≡◌, ◌∙◌, ◌++◌, [], ◌∷◌, length, ap, sym, subst, arith}
+use Rattle.std.proofs.Common.{◌≡◌, ◌∙◌, ◌++◌, [], ◌∷◌, map, length, ap, sym, subst, arith}
 use Rattle.std.specs.Str.{bytes_eq}
 use Rattle.std.proofs.lemmas.List.{length-map}
 use Rattle.indexmap.specs.IndexMap.{values}
 use Rattle.td_model.specs.Catalog.{stable_named}
 use Rattle.td_verdict.specs.Valid.{IsValid}
 use Rattle.td_catalog.specs.Inside.{catalog_of}
+use Rattle.td_catalog.specs.Tables.{table_of}
+use Rattle.td_catalog.specs.Groups.{AreGroups}
+use Rattle.td_catalog.proofs.Children.{stable_more}
 use Rattle.td_catalog.proofs.Found.{stable-absent}
 use Rattle.td_catalog.proofs.Growth.{appended, pushed, values-pushed, length-pushed, parents-stay}
 use Rattle.td_catalog.proofs.catalog.Catalog.add_stable.Goals as goal
@@ -41,6 +44,7 @@ invariant_of-self c =
       table_count = h.table_count;
       stream_count = h.stream_count;
       next_fits = h.next_fits;
+      groups = subst (λ ls. AreGroups (length (values c.insert.new.self)) (map table_of (values a.tables)) ls) (sym c.add_group.ensures) (subst (λ n. AreGroups n (map table_of (values a.tables)) (a.groups.lists ++ [] ∷ [])) (sym more) (stable_more (length (values a.stables)) (values a.tables) a.groups.lists h.parents h.groups));
       valid = subst IsValid (sym (same c)) c.requires.valid;
     }
 

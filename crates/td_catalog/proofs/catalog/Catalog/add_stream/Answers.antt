@@ -49,6 +49,7 @@ invariant_of-self c =
       table_count = h.table_count;
       stream_count = omega (arith, h.stream_count);
       next_fits = omega (arith, c.requires.count);
+      groups = h.groups;
       valid = subst IsValid (sym (same c)) c.requires.valid;
     }
 

@@ -37,6 +37,7 @@ invariant_of-self c =
       table_count = h.table_count;
       stream_count = omega (arith, c.retain.ensures.bound, h.stream_count);
       next_fits = h.next_fits;
+      groups = h.groups;
       valid = subst IsValid (sym (streams_are c)) (without_stream (catalog_of a) c.args.number h.valid);
     }
 
