@@ -12,7 +12,8 @@ use Rattle.td_memtree.specs.Keys.{item_at, with_item}
 use Rattle.td_memtree.specs.Within.{pairs_within, pairs_without}
 
 -- The puts by key, each the composition of those on its key since the last cut over it; the cuts by table and first
--- timestamp, each with its last timestamp, the greatest of those with this first one; and the number of puts and cuts taken.
+-- timestamp, each with its last timestamp, the greatest of those with this first one; and the number of puts and cuts
+-- taken.
 pub record Contents : Type 0 where
   pub puts : List (Key × Partial)
   pub cuts : List (Key × ℕ)
@@ -30,7 +31,8 @@ put_on p None = p
 put_on p (Some q) = record { birth = q.birth; cells = cells_over p.cells q.cells }
 
 abbrev pub with_put : Key → Partial → Contents → Contents
-with_put key p m = record { puts = with_item key (put_on p (item_at key m.puts)) m.puts; cuts = m.cuts; held = m.held + 1 }
+with_put key p m =
+    record { puts = with_item key (put_on p (item_at key m.puts)) m.puts; cuts = m.cuts; held = m.held + 1 }
 
 -- the later of two ends, of which the second may be missing
 abbrev pub later_end : ℕ → Option ℕ → ℕ
@@ -41,12 +43,17 @@ later_end hi (Some other) = max hi other
 abbrev pub with_cut : ℕ → ℕ → ℕ → Contents → Contents
 with_cut table lo hi m =
     if nat_le lo hi
-    then record { puts = pairs_without (key_at table lo) (key_at table hi) m.puts; cuts = with_item (key_at table lo) (later_end hi (item_at (key_at table lo) m.cuts)) m.cuts; held = m.held + 1 }
+    then record {
+      puts = pairs_without (key_at table lo) (key_at table hi) m.puts;
+      cuts = with_item (key_at table lo) (later_end hi (item_at (key_at table lo) m.cuts)) m.cuts;
+      held = m.held + 1;
+    }
     else record { puts = m.puts; cuts = m.cuts; held = m.held + 1 }
 
 -- the ranges of timestamps of a table's cuts, and those cuts
 abbrev pub ranges_of : ℕ → List (Key × ℕ) → List (ℕ × ℕ)
-ranges_of table cuts = map (λ (c : Key × ℕ). (c.0.ts, c.1)) (pairs_within (key_at table 0) (key_at table (2 ^ 64 - 1)) cuts)
+ranges_of table cuts =
+    map (λ (c : Key × ℕ). (c.0.ts, c.1)) (pairs_within (key_at table 0) (key_at table (2 ^ 64 - 1)) cuts)
 
 abbrev pub table_cuts : ℕ → List (Key × ℕ) → List Cut
 table_cuts table cuts = map (λ (r : ℕ × ℕ). record { table = table; lo = r.0; hi = r.1 }) (ranges_of table cuts)

@@ -7,9 +7,9 @@ use crate::memtable::Memtable;
 use td_layer::{Key, NoMem, Seq};
 
 impl Memtable {
-    /// The ranges of timestamps that the cuts of a table, by number, take in, each from its first to its last, both among
-    /// them. They rise, and are joined where they overlap or adjoin. It takes the time of a look-up, and then that of the
-    /// table's cuts.
+    /// The ranges of timestamps that the cuts of a table, by number, take in, each from its first to its last, both
+    /// among them. They rise, and are joined where they overlap or adjoin. It takes the time of a look-up, and then
+    /// that of the table's cuts.
     pub fn cuts(&self, table: u32) -> Result<Seq<(u64, u64)>, NoMem>
         ensures { IfOk result (λ ranges. IsJoinOf ranges (ranges_of table self.now.cuts)) }
     {

@@ -35,7 +35,8 @@ impl Model for Memtable {
 // A put over that of its key, if there is one, whose birth is kept.
 fn put_on(alloc: Global, put: &Put, birth: Birth, under: Option<&Partial>) -> Result<Partial, NoMem>
     requires { IfSome (option_copied under) (λ p. length put.now.cells ≡ length p.cells) }
-    ensures { IfOk result (λ p. p ≡ put_on (record { birth = birth; cells = put.now.cells }) (option_copied under.entry)) }
+    ensures { IfOk result (λ p. p ≡ put_on (record { birth = birth; cells = put.now.cells })
+        (option_copied under.entry)) }
 {
     match under {
         None => {
@@ -96,24 +97,25 @@ impl Memtable {
         })
     }
 
-    /// Lays a put over that of its key. A key without one gets the birth; a put that is there keeps its own. Where there is
-    /// no memory the memtable stays as it was.
+    /// Lays a put over that of its key. A key without one gets the birth; a put that is there keeps its own. Where
+    /// there is no memory the memtable stays as it was.
     pub fn put(&mut self, put: &Put, birth: Birth) -> Result<(), NoMem>
         requires room { self.old.held < MEMTABLE_PARTS }
         requires values { AreColumnCells put.now.cells }
-        requires width { IfSome (item_at put.now.key self.old.puts) (λ under. length put.now.cells ≡ length under.cells) }
-        ensures ok { OnOk result (self.new ≡ with_put put.now.key (record { birth = birth; cells = put.now.cells }) self.old) }
+        requires width { IfSome (item_at put.now.key self.old.puts)
+            (λ under. length put.now.cells ≡ length under.cells) }
+        ensures ok { OnOk result (self.new ≡ with_put put.now.key
+            (record { birth = birth; cells = put.now.cells }) self.old) }
         ensures err { OnErr result (self.new ≡ self.old) }
     {
         let part = put_on(self.alloc, put, birth, self.puts.get(put.key))?;
-        let puts = self.puts.insert(self.alloc, put.key, part)?;
-        self.puts = puts;
+        self.puts.set(self.alloc, put.key, part)?;
         self.held += 1;
         Ok(())
     }
 
-    /// Forgets the puts of a table, by number, from `lo` to `hi`, both among them, and notes the cut. Where `lo` is beyond
-    /// `hi` the cut is counted and changes nothing else. Where there is no memory the memtable stays as it was.
+    /// Forgets the puts of a table, by number, from `lo` to `hi`, both among them, and notes the cut. Where `lo` is
+    /// beyond `hi` the cut is counted and changes nothing else. Where there is no memory the memtable stays as it was.
     pub fn cut(&mut self, table: u32, lo: u64, hi: u64) -> Result<(), NoMem>
         requires room { self.old.held < MEMTABLE_PARTS }
         ensures ok { OnOk result (self.new ≡ with_cut table lo hi self.old) }

@@ -11,8 +11,8 @@ use std::sync::ledger::Ledger;
 use td_layer::{Copied, Key, NoMem, Partial, RowScan, ScanFault, Seq, Steps};
 use td_memtree::Range;
 
-/// A scan of a memtable: the puts of a table in a range of timestamps, by key, with the table's cuts. Contracts see what is
-/// left of it. The first call of `next` joins the cuts, and `cut_at` then finds one by search.
+/// A scan of a memtable: the puts of a table in a range of timestamps, by key, with the table's cuts. Contracts see
+/// what is left of it. The first call of `next` joins the cuts, and `cut_at` then finds one by search.
 #[derive(Drop)]
 pub struct MemScan<'a> {
     table: u32,
@@ -31,9 +31,14 @@ impl<'a> Model for MemScan<'a> {
 
     ghost Value = { Scanned };
 
-    ghost view = { λ s. record { left = puts_left s.ahead s.rest; cuts = table_cuts s.table s.memtable.now.cuts; begun = is_some s.joined } };
+    ghost view = { λ s. record {
+      left = puts_left s.ahead s.rest;
+      cuts = table_cuts s.table s.memtable.now.cuts;
+      begun = is_some s.joined;
+    } };
 
-    ghost invariant = { λ s. IsScan (puts_left s.ahead s.rest) × IfSome s.joined (λ ranges. IsJoinOf ranges (ranges_of s.table s.memtable.now.cuts)) };
+    ghost invariant = { λ s. IsScan (puts_left s.ahead s.rest)
+        × IfSome s.joined (λ ranges. IsJoinOf ranges (ranges_of s.table s.memtable.now.cuts)) };
 }
 
 impl Memtable {

@@ -11,3 +11,5 @@ pub mod Built
 pub mod Taking
 pub mod Ordered
 pub mod UpTo
+pub mod Grown
+pub mod Turned

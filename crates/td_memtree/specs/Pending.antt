@@ -15,7 +15,8 @@ module _ {T : Type 0} where
   left_pairs [] = []
   left_pairs (p ∷ ps) = left_pairs ps ++ own_pairs p
 
--- pairs so few that a tree of them may stand k levels down: each level has at most three quarters of the weight above it
+-- pairs so few that a tree of them may stand k levels down: each level has at most three quarters of the weight above
+-- it
 abbrev pub IsLight : ℕ → ℕ → Type 0
 IsLight k pairs = pairs * 4 ^ k ≤ 3 ^ k * 2 ^ 32
 

@@ -10,8 +10,8 @@ use std::cmp::Ordering;
 use std::marker::Model;
 use td_layer::Key;
 
-/// The pairs of a tree from one key to another, in the order of their keys. Contracts see it as the list of the pairs that
-/// are left. It takes no memory.
+/// The pairs of a tree from one key to another, in the order of their keys. Contracts see it as the list of the pairs
+/// that are left. It takes no memory.
 #[derive(Drop)]
 pub struct Range<'a, T> {
     walk: Walk<'a, T>,
@@ -32,8 +32,8 @@ impl<'a, T> Model for Range<'a, T> {
 }
 
 impl<T> Tree<T> {
-    /// The pairs whose keys are from `lo` to `hi`, both among them, in the order of their keys. Where `hi` stands before
-    /// `lo` there are none.
+    /// The pairs whose keys are from `lo` to `hi`, both among them, in the order of their keys. Where `hi` stands
+    /// before `lo` there are none.
     pub fn range(&self, lo: Key, hi: Key) -> Range<'_, T>
         ensures pairs { result ≡ pairs_within lo hi self.now }
         ensures in_order { InKeyOrder result }

@@ -8,8 +8,8 @@ use std::cmp::Ordering;
 use td_layer::{Key, NoMem};
 
 impl<T: Drop> Tree<T> {
-    /// The tree without the pairs whose keys are from `lo` to `hi`, both among them; this tree stays as it was. It takes
-    /// the time of a removal for each of them.
+    /// The tree without the pairs whose keys are from `lo` to `hi`, both among them; this tree stays as it was. It
+    /// takes the time of a removal for each of them.
     pub fn remove_range(&self, alloc: Global, lo: Key, hi: Key) -> Result<Tree<T>, NoMem>
         ensures { IfOk result (λ t. t ≡ pairs_without lo hi self.now) }
     {

@@ -1,5 +1,5 @@
 //! The tree.
-ghost use Rattle.std.specs.Prelude.{◌≡◌, ◌+◌, ◌*◌, ◌^◌, ◌<◌, ◌≤◌, [], ◌∷◌, ◌++◌, length, IfOk, MatchOption};
+ghost use Rattle.std.specs.Prelude.{◌≡◌, ◌+◌, ◌*◌, ◌^◌, ◌<◌, ◌≤◌, [], ◌∷◌, ◌++◌, length, nat_le, true, IsTrue, IsFalse, IfOk, OnOk, OnErr, MatchOption};
 ghost use Rattle.std.specs.Option.{option_copied};
 ghost use Rattle.std.specs.Arc.{arc_value};
 ghost use Rattle.td_layer.specs.Keys.{InKeyOrder};
@@ -8,6 +8,7 @@ ghost use Rattle.td_memtree.specs.Keys.{item_at, with_item, without, Balanced, N
 use std::alloc::Global;
 use std::cmp::Ordering;
 use std::marker::Model;
+use std::mem::swap;
 use std::sync::Arc;
 use td_layer::{Key, NoMem, Seq};
 
@@ -99,6 +100,80 @@ impl<T> Tree<T> {
                     Ordering::Less => node.left.get(key),
                     Ordering::Equal => Some(&node.item),
                     Ordering::Greater => node.right.get(key),
+                }
+            }
+        }
+    }
+}
+
+// Whether one side stays light enough beside the other with a pair more.
+fn may_grow<T>(side: &Tree<T>, other: &Tree<T>) -> bool
+    ensures { result ≡ nat_le (length side.now + 2) (3 * (length other.now + 1)) }
+{
+    side.len() as u64 + 2 <= 3 * (other.len() as u64 + 1)
+}
+
+// Whether sides of so many pairs may stand as two on the left, one below the other, and one on the right.
+fn may_turn(l: u32, m: u32, r: u32) -> bool
+    ensures { result ≡ true → Balanced l m × Balanced (l + m + 1) r }
+{
+    let (l, m, r) = (l as u64 + 1, m as u64 + 1, r as u64 + 1);
+    l <= 3 * m && m <= 3 * l && l + m <= 3 * r && r <= 3 * (l + m)
+}
+
+// Where the right side is no other tree's and all stays balanced so, the left side, the pair and the nearer side of the
+// right one become that right side, and what was left of it becomes the pair and the left side.
+fn lower<T>(
+    left: &mut Tree<T>,
+    key: &mut Key,
+    item: &mut Arc<T, Global>,
+    right: &mut Tree<T>,
+) -> bool
+    requires sorted { InKeyOrder (left.old ++ (key.old, arc_value item.old) ∷ right.old) }
+    requires fits { length left.old + length right.old + 1 < 2 ^ 32 }
+    ensures turned { IsTrue result → right.new ++ (key.new, arc_value item.new) ∷ left.new
+        ≡ left.old ++ (key.old, arc_value item.old) ∷ right.old }
+    ensures balanced { IsTrue result → Balanced (length right.new) (length left.new) }
+    ensures left { IsFalse result → left.new ≡ left.old }
+    ensures key { IsFalse result → key.new ≡ key.old }
+    ensures item { IsFalse result → item.new ≡ item.old }
+    ensures right { IsFalse result → right.new ≡ right.old }
+{
+    if let Some(below) = &mut right.link {
+        if let Some(child) = Arc::get_mut(below) {
+            if may_turn(left.len(), child.left.len(), child.right.len()) {
+                swap(key, &mut child.key);
+                swap(item, &mut child.item);
+                swap(left, &mut child.left);
+                swap(left, &mut child.right);
+                child.count = child.left.len() + child.right.len() + 1;
+                return true;
+            }
+        }
+    }
+    false
+}
+
+impl<T> Tree<T> {
+    // Where the right side may not grow, the root turns to the left, if no other tree has it and that side and all
+    // stays balanced so. The pairs stay as they are.
+    fn turn_left(&mut self)
+        ensures { self.new ≡ self.old }
+    {
+        let _len = self.len();
+        if let Some(shared) = &mut self.link {
+            if let Some(node) = Arc::get_mut(shared) {
+                if may_grow(&node.right, &node.left) {
+                    return;
+                }
+                if lower(
+                    &mut node.left,
+                    &mut node.key,
+                    &mut node.item,
+                    &mut node.right,
+                ) {
+                    swap(&mut node.left, &mut node.right);
+                    return;
                 }
             }
         }
@@ -282,10 +357,62 @@ impl<T: Drop> Tree<T> {
         Ok(done)
     }
 
+    // Puts an item at a key. Nodes that no other tree has and that stay balanced are changed where they are; from the
+    // first other node down the tree is made anew.
+    fn place(&mut self, alloc: Global, key: Key, item: Arc<T, Global>) -> Result<(), NoMem>
+        requires { length self.old + 1 < 2 ^ 32 }
+        ensures ok { OnOk result (self.new ≡ with_item key (arc_value item) self.old) }
+        ensures err { OnErr result (self.new ≡ self.old) }
+    {
+        if let Some(shared) = &mut self.link {
+            if let Some(node) = Arc::get_mut(shared) {
+                match key.cmp(&node.key) {
+                    Ordering::Less => {
+                        if may_grow(&node.left, &node.right) {
+                            node.left.place(alloc, key, item)?;
+                            node.count = node.left.len() + node.right.len() + 1;
+                            return Ok(());
+                        }
+                    }
+                    Ordering::Equal => {
+                        node.item = item;
+                        return Ok(());
+                    }
+                    Ordering::Greater => {
+                        if may_grow(&node.right, &node.left) {
+                            node.right.turn_left();
+                            node.right.place(alloc, key, item)?;
+                            node.count = node.left.len() + node.right.len() + 1;
+                            return Ok(());
+                        }
+                    }
+                }
+            }
+        }
+        let made = self.put(alloc, key, item)?;
+        *self = made;
+        Ok(())
+    }
+
+    /// Puts an item at a key of this tree. Other trees stay as they were. Nodes that no other tree has are changed
+    /// where they are, so that many puts in a row copy a node once at most. Where there is no memory the tree stays as
+    /// it was.
+    pub fn set(&mut self, alloc: Global, key: Key, item: T) -> Result<(), NoMem>
+        requires { length self.old + 1 < 2 ^ 32 }
+        ensures ok { OnOk result (self.new ≡ with_item key item self.old) }
+        ensures err { OnErr result (self.new ≡ self.old) }
+    {
+        let item = Arc::new(alloc, item)?;
+        self.turn_left();
+        self.place(alloc, key, item)?;
+        Ok(())
+    }
+
     // The first pair, and the tree of the others.
     fn split_first(&self, alloc: Global) -> Result<Option<First<T>>, NoMem>
         requires { length self.now < 2 ^ 32 }
-        ensures { IfOk result (λ o. MatchOption o (self.now ≡ []) (λ f. self.now ≡ (f.key, arc_value f.item) ∷ f.rest)) }
+        ensures { IfOk result (λ o. MatchOption o (self.now ≡ [])
+            (λ f. self.now ≡ (f.key, arc_value f.item) ∷ f.rest)) }
     {
         match &self.link {
             None => Ok(None),

@@ -15,8 +15,8 @@ use td_layer::Key;
 // Nodes whose own pair and right side are still to come, the next one last.
 type Pending<'a, T> = ArrayVec<Option<&'a Node<T>>, 75>;
 
-/// The pairs of a tree from a key on, in the order of their keys. Contracts see it as the list of the pairs that are left.
-/// It takes no memory, and goes on from where it is: a whole walk visits each node once.
+/// The pairs of a tree from a key on, in the order of their keys. Contracts see it as the list of the pairs that are
+/// left. It takes no memory, and goes on from where it is: a whole walk visits each node once.
 #[derive(Drop)]
 pub struct Walk<'a, T> {
     pending: Pending<'a, T>,

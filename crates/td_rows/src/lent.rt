@@ -4,8 +4,8 @@ ghost use Rattle.std.specs.Iterator.{YieldsFirstBy, item_count};
 use std::marker::Model;
 use td_layer::{Key, Row};
 
-/// The rows of a table in a range of timestamps, in the order of their timestamps. Contracts see it as the list of the rows
-/// that are left. It takes no memory.
+/// The rows of a table in a range of timestamps, in the order of their timestamps. Contracts see it as the list of the
+/// rows that are left. It takes no memory.
 #[derive(Drop)]
 pub struct RowsIn<'a> {
     pub(crate) rows: td_memtree::Range<'a, Row>,

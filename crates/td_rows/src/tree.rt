@@ -1,5 +1,5 @@
 //! Rows in a persistent tree.
-ghost use Rattle.std.specs.Prelude.{◌≡◌, [], IfOk, filter, not, nat_le};
+ghost use Rattle.std.specs.Prelude.{◌≡◌, [], IfOk, OnOk, filter, not, nat_le};
 ghost use Rattle.td_model.specs.State.{is_cut};
 ghost use Rattle.td_rows.specs.Puts.{row_after, rows_after};
 
@@ -12,9 +12,9 @@ use td_layer::{Key, NoMem, Row};
 use td_memtree::Tree;
 use td_model::Put;
 
-/// Rows in a persistent tree. Contracts see it as the list of the rows in the order of their keys. A change gives a new tree,
-/// of which only the nodes down to the changed rows are new, and leaves the old one as it was. There are fewer than 2^32 rows:
-/// a tree that has no room for one more is out of memory.
+/// Rows in a persistent tree. Contracts see it as the list of the rows in the order of their keys. A change gives a new
+/// tree, of which only the nodes down to the changed rows are new, and leaves the old one as it was. There are fewer
+/// than 2^32 rows: a tree that has no room for one more is out of memory.
 #[derive(Drop)]
 pub struct RowTree {
     alloc: Global,
@@ -51,9 +51,9 @@ impl RowTree {
         })
     }
 
-    // The rows with a put laid over the row of its key.
-    fn with_put(&self, moment: u64, put: &Put) -> Result<RowTree, NoMem>
-        ensures { IfOk result (λ t. t ≡ row_after moment put.now self.now) }
+    // Lays a put over the row of its key.
+    fn put(&mut self, moment: u64, put: &Put) -> Result<(), NoMem>
+        ensures { OnOk result (self.new ≡ row_after moment put.now self.old) }
     {
         if self.tree.len() == u32::MAX {
             return Err(NoMem);
@@ -64,27 +64,24 @@ impl RowTree {
             moment,
             self.tree.get(put.key),
         )?;
-        let tree = self.tree.insert(self.alloc, put.key, row)?;
-        Ok(RowTree {
-            alloc: self.alloc,
-            tree,
-        })
+        self.tree.set(self.alloc, put.key, row)?;
+        Ok(())
     }
 
-    /// The rows with puts laid over the rows of their keys, one after another, at a moment in milliseconds, at which new rows
-    /// are born.
+    /// The rows with puts laid over the rows of their keys, one after another, at a moment in milliseconds, at which
+    /// new rows are born. A node of the old tree is copied once at most, whatever the number of puts below it.
     pub fn with_puts(&self, moment: u64, puts: &[Put]) -> Result<RowTree, NoMem>
         ensures { IfOk result (λ t. t ≡ rows_after moment puts.now self.now) }
     {
         let mut rows = self.share()?;
         for put in puts {
-            rows = rows.with_put(moment, put)?;
+            rows.put(moment, put)?;
         }
         Ok(rows)
     }
 
-    /// The rows without those of a table, by number, from one timestamp to another, both included. It takes the time of a
-    /// removal for each of these.
+    /// The rows without those of a table, by number, from one timestamp to another, both included. It takes the time of
+    /// a removal for each of these.
     pub fn without(&self, table: u32, lo: u64, hi: u64) -> Result<RowTree, NoMem>
         ensures { IfOk result (λ t. t ≡ filter (λ e. not (is_cut table lo hi e.0)) self.now) }
     {
@@ -97,8 +94,8 @@ impl RowTree {
         })
     }
 
-    /// The rows at or after a timestamp, of all tables. It takes the time of a walk over all rows, and that of a removal for
-    /// each of those before the timestamp.
+    /// The rows at or after a timestamp, of all tables. It takes the time of a walk over all rows, and that of a
+    /// removal for each of those before the timestamp.
     pub fn kept_from(&self, ts: u64) -> Result<RowTree, NoMem>
         ensures { IfOk result (λ t. t ≡ filter (λ e. nat_le ts e.0.ts) self.now) }
     {
