@@ -49,7 +49,8 @@ abbrev pub tables_from : List ℕ → List (List ℕ) → List (List Cell) → L
 tables_from [] names tags = []
 tables_from (n ∷ ns) [] tags = []
 tables_from (n ∷ ns) (name ∷ names) [] = []
-tables_from (n ∷ ns) (name ∷ names) (cells ∷ tags) = record { number = n; name = name; tags = cells } ∷ tables_from ns names tags
+tables_from (n ∷ ns) (name ∷ names) (cells ∷ tags) =
+    record { number = n; name = name; tags = cells } ∷ tables_from ns names tags
 
 abbrev pub tables_of : Plan → List Listed
 tables_of p = tables_from p.tables p.names p.tags
@@ -64,7 +65,8 @@ abbrev pub found_of : List Column → List Comparison → Listed → Rows → Fo
 found_of columns ps t rows = filter (λ (e : Key × List Cell). all_hold ps e.1) (map (row_found columns t) rows)
 
 abbrev pub table_found : Plan → List Comparison → Rows → Listed → Found
-table_found p ps rows t = found_of p.schema.columns ps t (filter (λ (e : Key × Row). is_cut t.number p.lo p.hi e.0) rows)
+table_found p ps rows t =
+    found_of p.schema.columns ps t (filter (λ (e : Key × Row). is_cut t.number p.lo p.hi e.0) rows)
 
 abbrev pub plan_found : Plan → List Comparison → Rows → Found
 plan_found p ps rows = put_in_time [] (flat_map (table_found p ps rows) (tables_of p))

@@ -24,8 +24,12 @@ fn shown_of<M: RowsByKey>(
     skip: u64,
     count: u64,
 ) -> Result<Seq<Seq<Cell>>, NoMem>
-    ensures part { IfOk result (λ all. all ≡ take count (drop skip (answer_of plan.now.query (shown_places (reads_one plan.now) plan.now.schema plan.now.query) (plan_found plan.now (comparisons_of plan.now.schema plan.now.query.conds) (M.rows rows.now))))) }
-    ensures small { IfOk result (λ all. length (answer_of plan.now.query (shown_places (reads_one plan.now) plan.now.schema plan.now.query) (plan_found plan.now (comparisons_of plan.now.schema plan.now.query.conds) (M.rows rows.now))) < 2 ^ 63) }
+    ensures part { IfOk result (λ all. all ≡ take count
+        (drop skip (answer_of plan.now.query (shown_places (reads_one plan.now) plan.now.schema plan.now.query)
+        (plan_found plan.now (comparisons_of plan.now.schema plan.now.query.conds) (M.rows rows.now))))) }
+    ensures small { IfOk result (λ all. length
+        (answer_of plan.now.query (shown_places (reads_one plan.now) plan.now.schema plan.now.query)
+        (plan_found plan.now (comparisons_of plan.now.schema plan.now.query.conds) (M.rows rows.now))) < 2 ^ 63) }
 {
     let comparisons = comparisons(alloc, &plan.schema, plan.query.conds.as_slice())?;
     let places = shown_places(alloc, plan)?;
@@ -37,9 +41,9 @@ fn shown_of<M: RowsByKey>(
     Ok(all)
 }
 
-/// A part of the answer of a plan over rows: of its rows, in their order, without the first `skip`, at most `count`. The order is by
-/// timestamp, then by table, or the reverse; then OFFSET, then LIMIT. The whole answer has fewer than 2^63 rows. A negative OFFSET or LIMIT counts as 0. `Err(NoMem)` is want
-/// of memory.
+/// A part of the answer of a plan over rows: of its rows, in their order, without the first `skip`, at most `count`.
+/// The order is by timestamp, then by table, or the reverse; then OFFSET, then LIMIT. The whole answer has fewer than
+/// 2^63 rows. A negative OFFSET or LIMIT counts as 0. `Err(NoMem)` is want of memory.
 pub fn answer<M: RowsByKey>(
     alloc: Global,
     plan: &Plan,

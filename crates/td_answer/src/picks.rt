@@ -14,7 +14,8 @@ use td_model::{Column, OrderBy, Plan};
 use td_rows::RowsByKey;
 use td_verdict::Comparison;
 
-// A row's timestamp, in milliseconds since 1970, and its table, by number. They are ordered by timestamp, then by table.
+// A row's timestamp, in milliseconds since 1970, and its table, by number. They are ordered by timestamp, then by
+// table.
 #[derive(Clone, Copy, PartialEq, Eq, PartialOrd, Ord)]
 pub(crate) struct TimeKey {
     ts: u64,
@@ -55,7 +56,9 @@ fn put_held<'a>(
     line: Line<'a>,
     picked: &mut Picked<'a>,
 ) -> Result<(), NoMem>
-    ensures { OnOk result (keyed columns.now picked.new.entries ≡ put_held comparisons.now (keyed columns.now picked.old.entries) (key_of key, line_cells columns.now line.entry)) }
+    ensures { OnOk result (keyed columns.now picked.new.entries
+        ≡ put_held comparisons.now (keyed columns.now picked.old.entries)
+        (key_of key, line_cells columns.now line.entry)) }
 {
     if all_hold(columns, &line, comparisons) {
         picked.insert(key, line)?;
@@ -71,7 +74,9 @@ fn pick_table<'a, M: RowsByKey>(
     rows: &'a M,
     picked: &mut Picked<'a>,
 ) -> Result<(), NoMem>
-    ensures { OnOk result (keyed plan.now.schema.columns picked.new.entries ≡ put_in_time (keyed plan.now.schema.columns picked.old.entries) (table_found plan.now comparisons.now (M.rows rows.now) (listed table.now))) }
+    ensures { OnOk result (keyed plan.now.schema.columns picked.new.entries
+        ≡ put_in_time (keyed plan.now.schema.columns picked.old.entries)
+        (table_found plan.now comparisons.now (M.rows rows.now) (listed table.now))) }
 {
     let columns = plan.schema.columns.as_slice();
     for (key, row) in rows.range(table.number, plan.lo, plan.hi) {
@@ -97,7 +102,8 @@ pub(crate) fn pick_all<'a, M: RowsByKey>(
     comparisons: &[Comparison],
     rows: &'a M,
 ) -> Result<Picked<'a>, NoMem>
-    ensures { IfOk result (λ picked. keyed plan.now.schema.columns picked.entries ≡ plan_found plan.now comparisons.now (M.rows rows.now)) }
+    ensures { IfOk result (λ picked. keyed plan.now.schema.columns picked.entries
+        ≡ plan_found plan.now comparisons.now (M.rows rows.now)) }
 {
     let mut picked = BTreeMap::new(alloc);
     for at in 0..plan.tables.len() {

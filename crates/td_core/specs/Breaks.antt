@@ -16,8 +16,8 @@ moment_place gate = gate + 13
 abbrev pub body_place : ℕ → ℕ
 body_place gate = gate + 30
 
--- An item behind a gate can't come next in a state: its moment is before the state's, which is at its moment's place; or its
--- text isn't accepted there, which is at its body's place.
+-- An item behind a gate can't come next in a state: its moment is before the state's, which is at its moment's place;
+-- or its text isn't accepted there, which is at its body's place.
 abbrev pub CannotFollow : ℕ → LogItem → State → ℕ → Type 0
 CannotFollow gate i s at =
     ((i.moment < s.moment) × (at ≡ moment_place gate))
@@ -54,8 +54,8 @@ abbrev pub HasOpenGate : Option Log → Type 0
 HasOpenGate None = ⊥
 HasOpenGate (Some log) = (rest : List ℕ) × (log.bytes ≡ 1 ∷ rest)
 
--- Where the second log breaks behind a first one of these items, which make a state: it may have items only where the first
--- has.
+-- Where the second log breaks behind a first one of these items, which make a state: it may have items only where the
+-- first has.
 abbrev pub SecondBreaks : List LogItem → State → Option Log → ℕ → Type 0
 SecondBreaks older s log at =
     ((older ≡ []) × HasOpenGate log × (at ≡ 0))

@@ -28,7 +28,15 @@ pub record Parts : Type 0 where
 
 abbrev pub parts : Option Image → ℕ → ActiveLog → State → Listed JournalLine → Parts
 parts told count log state journal =
-    record { told = told; count = count; place = log_place log; made = log.is_made; state = state; journal = journal.items; spare = journal.spare }
+    record {
+      told = told;
+      count = count;
+      place = log_place log;
+      made = log.is_made;
+      state = state;
+      journal = journal.items;
+      spare = journal.spare;
+    }
 
 -- the entry was written and taken in
 pub record TakesIn (old new : Parts) (e : Entry) (rows version given edge : ℕ) : Type 0 where

@@ -78,8 +78,8 @@ abbrev pub AtGate : ℕ → List LogItem → ℕ → Option Log → Type 0
 AtGate first items gate None = (items ≡ []) × (gate ≡ 0)
 AtGate first items gate (Some log) = IsSettled first items gate log
 
--- The log of this number is written, behind the items of the log before it. It is the first log, and none stands above it; or
--- it is the second, and the first has items.
+-- The log of this number is written, behind the items of the log before it. It is the first log, and none stands above
+-- it; or it is the second, and the first has items.
 abbrev pub IsWritten : Image → ℕ → List LogItem → Type 0
 IsWritten image number older =
     ((number ≡ FIRST_LOG) × (older ≡ []) × (image.logs (FIRST_LOG + 1) ≡ None))
@@ -99,9 +99,9 @@ pub record IsActive (image : Image) (place : LogPlace) (s : State) : Type 0 wher
 abbrev pub IsMade : LogPlace → Bool → Image → Type 0
 IsMade place made image = is_some (image.logs place.number) ≡ made
 
--- What is true of every core: no moment was given before that of the state, nor beyond the last; and as long as nothing halted,
--- there is room for the line of a halt, and where the store tells its image, it stands for the state, by the log that is
--- written.
+-- What is true of every core: no moment was given before that of the state, nor beyond the last; and as long as nothing
+-- halted, there is room for the line of a halt, and where the store tells its image, it stands for the state, by the
+-- log that is written.
 pub record IsKept (told : Option Image) (s : State) (place : LogPlace) (made : Bool) (floor spare : ℕ) : Type 0 where
   pub since : s.moment ≤ floor
   pub last : floor ≤ LAST_TIMESTAMP

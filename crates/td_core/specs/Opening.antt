@@ -96,7 +96,8 @@ pub record TakesText (text : List ℕ) (i : LogItem) (s t : State) : Type 0 wher
 
 -- the text of an item of a log is refused, at the place that is named
 abbrev pub TextRefuses : ℕ → ℕ → List ℕ → LogItem → State → OpenCause → Type 0
-TextRefuses n at text i s (causes.NotThisStore file place) = (file ≡ files.Log n) × (place ≡ at) × IsRefused text i.moment s
+TextRefuses n at text i s (causes.NotThisStore file place) =
+    (file ≡ files.Log n) × (place ≡ at) × IsRefused text i.moment s
 TextRefuses n at text i s causes.StoreFault = ⊥
 TextRefuses n at text i s causes.NoMemory = Unit {0}
 
@@ -114,8 +115,8 @@ ItemsRefuse n items s (causes.NotThisStore file at) = (file ≡ files.Log n) × 
 ItemsRefuse n items s causes.StoreFault = ⊥
 ItemsRefuse n items s causes.NoMemory = Unit {0}
 
--- The bytes are a log of these items from a version on, whose closed gate stands at this place. A log that isn't there has no
--- item, and its gate will stand at its first byte.
+-- The bytes are a log of these items from a version on, whose closed gate stands at this place. A log that isn't there
+-- has no item, and its gate will stand at its first byte.
 abbrev pub EndsAt : ℕ → Option (List ℕ) → List LogItem → ℕ → Type 0
 EndsAt first None items gate = (items ≡ []) × (gate ≡ 0)
 EndsAt first (Some bytes) items gate = LogAt first items gate bytes
@@ -168,10 +169,13 @@ LogsRefuse logs causes.NoMemory = Unit {0}
 abbrev pub StandAlike : Image → Image → Type 0
 StandAlike old new = (s : State) → (Stands old s → Stands new s) × (Stands new s → Stands old s)
 
--- All that opening changes: which of the logs up to the second are there, how much of them is stable, and whether a crash may
--- leave them. The image stands for the same states.
+-- All that opening changes: which of the logs up to the second are there, how much of them is stable, and whether a
+-- crash may leave them. The image stands for the same states.
 pub record Tidies (old new : Image) : Type 0 where
-  pub rest : new ≡ record old { logs = new.logs; doubt = record old.doubt { fresh = new.doubt.fresh; gone = new.doubt.gone } }
+  pub rest : new ≡ record old {
+    logs = new.logs;
+    doubt = record old.doubt { fresh = new.doubt.fresh; gone = new.doubt.gone };
+  }
   pub others : (n : ℕ) → FIRST_LOG + 1 < n → new.logs n ≡ old.logs n
   pub alike : StandAlike old new
 
@@ -193,7 +197,8 @@ abbrev pub dropped : Bool → Image → Image
 dropped false image = after_log_drop 0 image
 dropped true image = after_log_drop (FIRST_LOG + 1) (after_log_drop 0 image)
 
--- The first two logs are stable, the log before them is gone, and so is the second one unless it is the one that is written.
+-- The first two logs are stable, the log before them is gone, and so is the second one unless it is the one that is
+-- written.
 abbrev pub Settles : LogPlace → Image → Image → Type 0
 Settles place old new =
     ((place.number ≡ FIRST_LOG + 1) × (new ≡ dropped false (synced old)))

@@ -10,8 +10,8 @@ use Rattle.td_told.specs.Verdict.{verdict}
 use Rattle.td_wal.specs.declared.item.LogItem.{LogItem}
 use Rattle.td_wal.specs.declared.item.LogBody.TheVariants as bodies
 
--- An item is the next entry of a state: its version is the next one, its moment isn't before the state's, and its text is a
--- statement that is accepted there at its moment. No stream takes a step so far.
+-- An item is the next entry of a state: its version is the next one, its moment isn't before the state's, and its text
+-- is a statement that is accepted there at its moment. No stream takes a step so far.
 pub record IsNext (i : LogItem) (s t : State) : Type 0 where
   pub text : List ℕ
   pub stmt : Stmt

@@ -15,8 +15,8 @@ abbrev pub HasItems : ℕ → List LogItem → Option Log → Type 0
 HasItems first items None = items ≡ []
 HasItems first items (Some log) = IsLog first log.bytes items
 
--- A store without a head stands for the state that the items of its first log, and then those of the log above it, make of
--- the empty state. The second log has items only where the first has.
+-- A store without a head stands for the state that the items of its first log, and then those of the log above it, make
+-- of the empty state. The second log has items only where the first has.
 pub record Stands (image : Image) (b : State) : Type 0 where
   pub head : image.head ≡ None
   pub older : List LogItem

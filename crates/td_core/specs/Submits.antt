@@ -58,7 +58,8 @@ pub record KeepsHistory (old new : CoreState) : Type 0 where
 
 -- An entry is added: what the verdict accepts at the moment, with the session and the ordinal of the call. The store
 -- stands for the state with it.
-pub record Accepts (old new : CoreState) (session ordinal moment : ℕ) (stmt : Stmt) (version rows edge : ℕ) : Type 0 where
+pub record Accepts (old new : CoreState) (session ordinal moment : ℕ) (stmt : Stmt) (version rows edge : ℕ) :
+    Type 0 where
   pub entered : What
   pub accepted : verdict stmt old.state [] moment ≡ Accept entered rows
   pub version_is : version ≡ old.state.version + 1
@@ -81,7 +82,8 @@ pub record Halts (old new : CoreState) (session ordinal moment : ℕ) (stmt : St
   pub layers : IsComposed new
   pub base : new.base ≡ old.base
   pub journal : new.journal ≡ old.journal ++ halt_line halt moment ∷ []
-  pub image : Along (StandsForEither old.state (step (old.state ∷ []) (entry_at session ordinal moment tried))) old.told new.told
+  pub image : Along (StandsForEither old.state (step (old.state ∷ []) (entry_at session ordinal moment tried)))
+      old.told new.told
   pub cause : Rose old.count new.count
 
 -- the verdict at the moment is this cause, in the state whose version is the prefix; the store isn't called

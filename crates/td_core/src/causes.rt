@@ -8,8 +8,8 @@ pub enum FileId {
     File(u64),
 }
 
-/// Why a core was not opened: the store failed; a file of it breaks its form first at a place, in bytes from 0; or there was no
-/// memory.
+/// Why a core was not opened: the store failed; a file of it breaks its form first at a place, in bytes from 0; or
+/// there was no memory.
 #[derive(Clone, Copy, Debug, PartialEq, Eq)]
 pub enum OpenCause {
     StoreFault,

@@ -221,8 +221,8 @@ fn replay_items(
     Ok(())
 }
 
-// Takes in the items of the bytes of a log, and gives the place of its closed gate. Where the bytes are no log, their whole
-// items are judged first.
+// Takes in the items of the bytes of a log, and gives the place of its closed gate. Where the bytes are no log, their
+// whole items are judged first.
 fn replay_bytes(
     alloc: Global,
     tables: &mut Tables,
@@ -395,7 +395,8 @@ struct Opened {
 // Reads a store, makes its state, and settles its logs. All memory is taken before the store is changed.
 fn open_store<S: Store>(alloc: Global, store: &mut S) -> Result<Opened, OpenCause>
     ensures stands { IfOk result (λ o. IfSome (S.told store.old) (λ image. Stands image o.tables.state)) }
-    ensures kept { IfOk result (λ o. IsKept (S.told store.new) o.tables.state (log_place o.log) o.log.is_made o.tables.state.moment o.journal.spare) }
+    ensures kept { IfOk result (λ o. IsKept (S.told store.new) o.tables.state (log_place o.log) o.log.is_made
+        o.tables.state.moment o.journal.spare) }
     ensures halt { IfOk result (λ o. o.tables.state.halt ≡ None) }
     ensures journal { IfOk result (λ o. o.journal.items ≡ []) }
     ensures image { IfOk result (λ o. Along (Settles (log_place o.log)) (S.told store.old) (S.told store.new)) }
@@ -417,19 +418,21 @@ fn open_store<S: Store>(alloc: Global, store: &mut S) -> Result<Opened, OpenCaus
     })
 }
 
-/// The core of a store. It reads the head and the first two logs and no other file, makes the logs that are there stable, and takes
-/// away the log before the first one and a second one without items.
+/// The core of a store. It reads the head and the first two logs and no other file, makes the logs that are there
+/// stable, and takes away the log before the first one and a second one without items.
 ///
-/// After `Ok` the store stands for the state of the core, and stood for it before; the journal is empty. `NotThisStore` comes
-/// exactly where the store stands for no state, with the first place at which it breaks that form. `StoreFault` comes only where the
-/// store failed. After each of them, and after `NoMemory`, the store comes back and stands for the states that it stood for.
+/// After `Ok` the store stands for the state of the core, and stood for it before; the journal is empty. `NotThisStore`
+/// comes exactly where the store stands for no state, with the first place at which it breaks that form. `StoreFault`
+/// comes only where the store failed. After each of them, and after `NoMemory`, the store comes back and stands for the
+/// states that it stood for.
 pub fn open_core<S: Store, C: Clock>(
     alloc: Global,
     store: S,
     clock: C,
 ) -> Result<Core<S, C>, OpenRefused<S, C>>
     ensures stands { IfOk result (λ core. IfSome (S.told store) (λ image. Stands image core.state)) }
-    ensures covers { IfOk result (λ core. Covers (C.readings clock) (seen S.told S.count C.readings core) core.state []) }
+    ensures covers { IfOk result (λ core. Covers (C.readings clock) (seen S.told S.count C.readings core)
+        core.state []) }
     ensures halt { IfOk result (λ core. core.state.halt ≡ None) }
     ensures floor { IfOk result (λ core. (core.floor ≡ core.state.moment) × (core.floor ≤ LAST_TIMESTAMP)) }
     ensures base { IfOk result (λ core. (core.base ≡ core.state.version) × (core.journal ≡ [])) }
@@ -438,7 +441,8 @@ pub fn open_core<S: Store, C: Clock>(
     ensures clock { IfOk result (λ core. core.clock ≡ clock) }
     ensures count { IfOk result (λ core. S.count core.store ≡ S.count store) }
     ensures strange { IfErr result (λ refused. IfSome (S.told store) (BreaksBy refused.cause)) }
-    ensures untouched { IfErr result (λ refused. refused.cause ≢ causes.StoreFault → S.told refused.store ≡ S.told store) }
+    ensures untouched { IfErr result (λ refused. refused.cause ≢ causes.StoreFault
+        → S.told refused.store ≡ S.told store) }
     ensures tidy { IfErr result (λ refused. Along Tidies (S.told store) (S.told refused.store)) }
     ensures fault { IfErr result (λ refused. CountIsBy refused.cause (S.count store) (S.count refused.store)) }
     ensures clock_back { IfErr result (λ refused. refused.clock ≡ clock) }

@@ -106,8 +106,8 @@ impl<S: Store> Pinned<S> {
         &self.header
     }
 
-    /// The next `count` rows of the answer, or all that are left. The whole answer has fewer than 2^63 rows. No file is read so far, so
-    /// only want of memory can come; it leaves the place.
+    /// The next `count` rows of the answer, or all that are left. The whole answer has fewer than 2^63 rows. No file is
+    /// read so far, so only want of memory can come; it leaves the place.
     pub fn rows(&mut self, count: u64) -> Result<Seq<Seq<Cell>>, ScanFault>
         ensures rows { (q : AQuery) (s : State) (i : ℕ) → Sees self.old q s i
             → IfOk result (λ rows. rows ≡ take count (drop i (answer q s))) }

@@ -14,8 +14,8 @@ use Rattle.td_tables.specs.declared.contents.Part.{Part}
 use Rattle.td_tables.specs.declared.contents.Part.TheVariants as part
 use Rattle.td_tables.specs.Latest.{Greatest, raised_all}
 
--- the subtables with their tags, the greatest timestamps that were ever put, the rows, the retention edge, and the version
--- of the halt
+-- the subtables with their tags, the greatest timestamps that were ever put, the rows, the retention edge, and the
+-- version of the halt
 pub record Kept : Type 0 where
   pub subtables : Subtables
   pub greatest : Greatest

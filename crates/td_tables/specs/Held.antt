@@ -10,8 +10,8 @@ use Rattle.td_verdict.specs.Sound.{IsFromEdge}
 use Rattle.td_tables.specs.declared.contents.Part.{Part}
 use Rattle.td_tables.specs.Contents.{ContentsHeld, Room, state_of, part_of, HasRoomBeside}
 
--- The state; how many more supertables, tables and streams its catalog takes without further memory; and the room of what
--- is kept beside the catalog.
+-- The state; how many more supertables, tables and streams its catalog takes without further memory; and the room of
+-- what is kept beside the catalog.
 pub record Held : Type 0 where
   pub state : State
   pub stable_room : ℕ
@@ -39,8 +39,8 @@ catalog_held h =
       stream_room = h.stream_room;
     }
 
--- An entry may come next in a state: it may follow the catalog, no row of it lies before the retention edge, which doesn't
--- fall, and there is a version for it.
+-- An entry may come next in a state: it may follow the catalog, no row of it lies before the retention edge, which
+-- doesn't fall, and there is a version for it.
 pub record CanTake (w : What) (s : State) : Type 0 where
   pub follows : CanFollow w s.catalog
   pub edge : IsFromEdge s.edge w
@@ -52,8 +52,8 @@ pub record PreparedEntry : Type 0 where
   pub change : Option What
   pub part : Part
 
--- A prepared entry may be applied to what is held, and takes no memory: it may come next in the state, it was prepared over
--- the catalog and the rows of the state, and there is room for it.
+-- A prepared entry may be applied to what is held, and takes no memory: it may come next in the state, it was prepared
+-- over the catalog and the rows of the state, and there is room for it.
 pub record IsReady (p : PreparedEntry) (h : Held) : Type 0 where
   pub takes : CanTake p.entry.what h.state
   pub change : p.change ≡ catalog.change_of p.entry.what

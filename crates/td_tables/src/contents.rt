@@ -14,8 +14,8 @@ use td_model::{Entry, What};
 use td_rows::RowTree;
 use td_tagidx::{TagChange, TagIndex};
 
-/// The subtables by their tags, the greatest timestamps that were ever put, the rows, the retention edge, and the version
-/// of the halt, if there is one.
+/// The subtables by their tags, the greatest timestamps that were ever put, the rows, the retention edge, and the
+/// version of the halt, if there is one.
 #[derive(Drop)]
 pub(crate) struct Contents {
     index: TagIndex,
@@ -98,13 +98,14 @@ impl Contents {
         self.halt
     }
 
-    // Takes the memory that an entry needs, and gives its part, over the catalog before it. What is kept stays as it is, also
-    // where there is no memory.
+    // Takes the memory that an entry needs, and gives its part, over the catalog before it. What is kept stays as it
+    // is, also where there is no memory.
     pub(crate) fn prepare(&mut self, catalog: &Catalog, entry: &Entry) -> Result<Part, NoMem>
         requires subtables { self.old.kept.subtables ≡ subtables_of catalog.now.catalog }
         requires follows { CanFollow entry.now.what catalog.now.catalog }
         ensures unchanged { self.new.kept ≡ self.old.kept }
-        ensures part { IfOk result (λ part. part ≡ part_of entry.now.what entry.now.moment catalog.now.catalog self.old.kept.rows) }
+        ensures part { IfOk result (λ part. part
+            ≡ part_of entry.now.what entry.now.moment catalog.now.catalog self.old.kept.rows) }
         ensures room { IfOk result (λ _. HasRoomBeside entry.now.what self.new.room) }
     {
         match &entry.what {

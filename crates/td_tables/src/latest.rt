@@ -10,8 +10,8 @@ use td_catalog::Catalog;
 use td_layer::{Key, NoMem};
 use td_model::Put;
 
-/// Of each supertable, and of each plain table, the greatest timestamp that was ever put there, in milliseconds. Contracts
-/// see the two lists, and the room that each has.
+/// Of each supertable, and of each plain table, the greatest timestamp that was ever put there, in milliseconds.
+/// Contracts see the two lists, and the room that each has.
 #[derive(Drop)]
 pub(crate) struct Latest {
     stables: Vec<Option<u64>>,

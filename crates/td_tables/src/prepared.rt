@@ -6,8 +6,8 @@ use std::marker::Model;
 use td_catalog::Change;
 use td_model::Entry;
 
-/// An entry with all the memory that taking it in needs. Contracts see the entry, what it changes in the catalog, and its part
-/// beside the catalog. One that isn't applied is dropped.
+/// An entry with all the memory that taking it in needs. Contracts see the entry, what it changes in the catalog, and
+/// its part beside the catalog. One that isn't applied is dropped.
 #[derive(Drop)]
 pub struct Prepared {
     pub(crate) entry: Entry,

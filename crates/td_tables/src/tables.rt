@@ -28,8 +28,8 @@ use td_rows::RowTree;
 
 /// The state of a database in memory. Contracts see the state, and how much it takes without further memory.
 ///
-/// An entry is taken in by two steps, between which it can be written to a log: [`Tables::prepare`] takes all the memory that
-/// it needs and changes nothing that is seen of the state, and [`Tables::apply`] then takes none.
+/// An entry is taken in by two steps, between which it can be written to a log: [`Tables::prepare`] takes all the
+/// memory that it needs and changes nothing that is seen of the state, and [`Tables::apply`] then takes none.
 #[derive(Drop)]
 pub struct Tables {
     alloc: Global,
@@ -92,8 +92,8 @@ impl Tables {
         self.contents.halt()
     }
 
-    /// The state is sound: its catalog is valid, and each row is one of a table that is there, with a value for each column,
-    /// and not before the retention edge. It does nothing.
+    /// The state is sound: its catalog is valid, and each row is one of a table that is there, with a value for each
+    /// column, and not before the retention edge. It does nothing.
     pub fn is_sound(&self)
         ensures { IsSound self.now.state }
     {
@@ -129,9 +129,9 @@ impl Tables {
         Ok(answer)
     }
 
-    /// What a write, or a text that is no statement, meets at a moment in milliseconds since 1970: it is accepted, with what
-    /// its entry does and its count of rows, or refused with the first cause that applies. The state can take what is
-    /// accepted.
+    /// What a write, or a text that is no statement, meets at a moment in milliseconds since 1970: it is accepted, with
+    /// what its entry does and its count of rows, or refused with the first cause that applies. The state can take what
+    /// is accepted.
     pub fn judge(&self, stmt: &Stmt, moment: u64) -> Result<Result<(What, u32), Cause>, NoMem>
         requires clock { IsTrue (reads_clock stmt.now) }
         requires moment { moment ≤ LAST_TIMESTAMP }
@@ -155,7 +155,8 @@ impl Tables {
         ensures state { self.new.state ≡ self.old.state }
         ensures change { IfOk result (λ made. made.0 ≡ change_of entry.now.what) }
         ensures ready { IfOk result (λ made. IsReadyFor made.0 (catalog_held self.new)) }
-        ensures part { IfOk result (λ made. made.1 ≡ part_of entry.now.what entry.now.moment self.new.state.catalog self.new.state.rows) }
+        ensures part { IfOk result (λ made. made.1
+            ≡ part_of entry.now.what entry.now.moment self.new.state.catalog self.new.state.rows) }
         ensures room { IfOk result (λ _. HasRoomBeside entry.now.what self.new.beside) }
     {
         let change = self.catalog.prepare(entry)?;
@@ -163,8 +164,8 @@ impl Tables {
         Ok((change, part))
     }
 
-    /// Takes the memory that an entry needs, and gives what [`Tables::apply`] can then take in without memory. The state stays
-    /// as it is, also where there is no memory.
+    /// Takes the memory that an entry needs, and gives what [`Tables::apply`] can then take in without memory. The
+    /// state stays as it is, also where there is no memory.
     pub fn prepare(&mut self, entry: Entry) -> Result<Prepared, NoMem>
         requires { CanTake entry.what self.old.state }
         ensures state { self.new.state ≡ self.old.state }
@@ -196,8 +197,8 @@ impl Tables {
         self.moment = entry.moment;
     }
 
-    /// Takes in a halt, which is of no session, at a moment in milliseconds since 1970: from then on no write is accepted. It
-    /// takes no memory.
+    /// Takes in a halt, which is of no session, at a moment in milliseconds since 1970: from then on no write is
+    /// accepted. It takes no memory.
     pub fn stop(&mut self, moment: u64)
         requires { self.old.state.version < LAST_VERSION }
         ensures { self.new.state ≡ step (self.old.state ∷ []) (halt_at moment) }
@@ -207,11 +208,12 @@ impl Tables {
         self.contents.stop(self.version);
     }
 
-    /// What a row query meets: it passes with its plan, or is refused with the first cause that applies. The plan of a query
-    /// without NOW is sound.
+    /// What a row query meets: it passes with its plan, or is refused with the first cause that applies. The plan of a
+    /// query without NOW is sound.
     pub fn plan(&self, query: &Query) -> Result<Result<Plan, Cause>, NoMem>
         requires { IsTrue (is_row_query query.now) }
-        ensures verdict { IfOk result (λ answer. query_verdict_of answer ≡ query_verdict query.now self.now.state.catalog) }
+        ensures verdict { IfOk result (λ answer. query_verdict_of answer
+            ≡ query_verdict query.now self.now.state.catalog) }
         ensures plan { IfOk result (λ answer. IfOk answer (λ plan. plan ≡ plan_of query.now self.now.state.catalog)) }
         ensures sound { has_now query.now ≡ false → IfOk result (λ answer. IfOk answer IsSoundPlan) }
     {

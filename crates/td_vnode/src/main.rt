@@ -1,7 +1,7 @@
 //! [run] The program: it makes the real devices, and `td_top` does all else.
 //!
-//! It stands on `td_top` for all that it does, and on `td_realdev` for the devices: the streams, the directory, the clock and the
-//! gate.
+//! It stands on `td_top` for all that it does, and on `td_realdev` for the devices: the streams, the directory, the
+//! clock and the gate.
 #![tactic(auto)]
 
 use std::env;
