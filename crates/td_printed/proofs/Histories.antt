@@ -140,7 +140,7 @@ none_passes true None w rows h = cc
 none_passes true (Some why) w rows h = cc
 none_passes false why w rows h = cc
 
-write_of : (q : Stmt) (s : State) (moment : ℕ) (w : What) (rows : ℕ) → verdict q s [] moment ≡ Accept w rows
+pub write_of : (q : Stmt) (s : State) (moment : ℕ) (w : What) (rows : ℕ) → verdict q s [] moment ≡ Accept w rows
     → write_verdict q s.catalog s.edge moment ≡ Accept w rows
 write_of (stmt.MakeStable name columns tags) s moment w rows h = written (closed_cause s)
     (write_verdict (stmt.MakeStable name columns tags) s.catalog s.edge moment) w rows h

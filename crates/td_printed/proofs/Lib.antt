@@ -15,3 +15,4 @@ pub mod Replies
 pub mod Counted
 pub mod Histories
 pub mod Reports
+pub mod States

@@ -13,7 +13,7 @@ use Rattle.td_told.specs.Told.{Told}
 use Rattle.td_told.specs.Turn.{End, Judged, entry_at, reply_of, state_then}
 use Rattle.td_told.specs.Verdict.{verdict, answer}
 use Rattle.td_verdict.specs.Sound.{IsSound}
-use Rattle.td_printed.specs.Names.{HasWords, AreWords, IsCounted, HasCounts}
+use Rattle.td_printed.specs.Names.{HasWords, AreWords, IsCounted, IsPrintableState, HasCounts}
 
 -- Each name in what is answered of a text is a word.
 abbrev pub NamesOfATextAreWords : Type 0
@@ -41,6 +41,13 @@ RepliesArePrintable = (q : Stmt) (s : State) (end : End) (moment : ℕ) → HasW
 abbrev pub StatesStayCounted : Type 0
 StatesStayCounted = (q : Stmt) (s : State) (end : End) (session ordinal moment : ℕ) → IsCounted s → IsCount moment →
     Judged end (verdict q s [] moment) → IsCounted (state_then end s session ordinal moment)
+
+-- The state that the statement of a text makes of one whose replies can be printed is such a state too, where it is
+-- accepted at a moment below 2^64.
+abbrev pub StatesStayPrintable : Type 0
+StatesStayPrintable = (text : List ℕ) (q : Stmt) (s : State) (session ordinal moment : ℕ) (w : What) (rows : ℕ) →
+    IsAnswer text q → IsPrintableState s → IsCount moment → verdict q s [] moment ≡ Accept w rows →
+    IsPrintableState (step (s ∷ []) (entry_at session ordinal moment w))
 
 -- A report that tells the run of a script from b on can be printed, where each statement has words, b is sound and its
 -- catalog has words, and the numbers of b and of the report are below 2^64.

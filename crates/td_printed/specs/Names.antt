@@ -26,6 +26,7 @@ use Rattle.td_model.specs.declared.report.Report.{Report}
 use Rattle.td_model.specs.Catalog.{Catalog}
 use Rattle.td_model.specs.Printable.{IsWord, IsCount, IsPrintableCause}
 use Rattle.td_model.specs.State.{State}
+use Rattle.td_verdict.specs.Sound.{IsSound}
 
 -- a word with one byte or more
 pub record IsName (name : List ℕ) : Type 0 where
@@ -124,6 +125,13 @@ pub record IsCounted (s : State) : Type 0 where
   pub version : IsCount s.version
   pub edge : IsCount s.edge
   pub halt : IfSome s.halt IsCount
+
+-- A state whose replies can be printed: it is sound, the names in its catalog are words, and its numbers are below
+-- 2^64.
+pub record IsPrintableState (s : State) : Type 0 where
+  pub sound : IsSound s
+  pub words : AreWords s.catalog
+  pub counted : IsCounted s
 
 -- an answer has fewer than 2^64 rows
 abbrev pub HasFewRows : Reply → Type 0

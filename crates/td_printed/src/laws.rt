@@ -1,13 +1,14 @@
 //! Laws of names, from the text of a statement to the reply.
 ghost use Rattle.td_model.specs.Catalog.{empty_catalog};
 ghost use Rattle.td_model.specs.State.{empty_state};
-ghost use Rattle.td_printed.specs.Names.{AreWords, IsCounted};
+ghost use Rattle.td_printed.specs.Names.{AreWords, IsCounted, IsPrintableState};
 ghost use Rattle.td_printed.specs.Laws.{
   NamesOfATextAreWords,
   EntriesKeepWords,
   TurnsKeepWords,
   RepliesArePrintable,
   StatesStayCounted,
+  StatesStayPrintable,
   ToldReportsArePrintable,
 };
 
@@ -35,6 +36,13 @@ pub fn replies_are_printable()
 pub fn states_stay_counted()
     ensures empty { IsCounted empty_state }
     ensures turn { StatesStayCounted }
+{}
+
+/// The replies of the empty state can be printed, and so can those of each state that texts make of it: a state stays
+/// so with each statement of a text that is accepted at a moment below 2^64.
+pub fn states_stay_printable()
+    ensures empty { IsPrintableState empty_state }
+    ensures entry { StatesStayPrintable }
 {}
 
 /// A report that tells the run of a script of statements with words, from a sound state with words on, can be printed,

@@ -8,6 +8,8 @@
 //! - [`catalogs_keep_words`]: a catalog whose names are words stays so, whatever a statement with words does.
 //! - [`replies_are_printable`]: in a sound state with such a catalog, the reply to such a statement can be printed.
 //! - [`states_stay_counted`]: the numbers of a state that replies show stay below 2^64.
+//! - [`states_stay_printable`]: the empty state is sound, has no name that isn't a word, and its numbers are below 2^64, and each
+//!   accepted statement of a text leaves a state so.
 //! - [`told_reports_are_printable`]: so a report that tells the run of such statements can be printed.
 //!
 //! It stands on `td_parse`, `td_clauses` and `td_grammar` for the grammar of statements, on `td_lex` for tokens, on
@@ -19,5 +21,5 @@ mod laws;
 
 pub use laws::{
     catalogs_keep_words, names_of_a_text_are_words, replies_are_printable, states_stay_counted,
-    told_reports_are_printable,
+    states_stay_printable, told_reports_are_printable,
 };

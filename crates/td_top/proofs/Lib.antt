@@ -7,3 +7,4 @@ pub mod Places
 pub mod Ran
 pub mod Ends
 pub mod Arguments
+pub mod Printing

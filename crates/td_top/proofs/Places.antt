@@ -34,7 +34,7 @@ left_by c b h opened covers =
 
 halt_cause : (rs : List (ℕ × ℕ × _)) (before now : ℕ) → HaltsBy rs before now → HaltCause rs before now
 halt_cause rs before now (inl h) = inl h.0
-halt_cause rs before now (inr h) = inr h
+halt_cause rs before now (inr h) = inr h.1
 
 -- where both are told, what is left goes on
 goes_on_both : (told told' : Option Image) (b : State) (h : List Entry) → IfSome told (λ image. Stands image b) → LeavesBy b h told' → IfSome told (λ old. IfSome told' (GoesOn old))
@@ -59,6 +59,7 @@ module _ (lines : List Line) (readings written written' : Option (List ℕ)) (fa
         open_base = open_base;
         report = p.report;
         told = played.tells;
+        counts = p.counts;
         text_is = p.text_is;
         left = left_by c' c.state played.tells.told.told.entries c.readings played.covers;
         cause = subst (λ n. HaltCause p.report.replies n c'.count) opened (halt_cause p.report.replies c.count c'.count played.cause);
@@ -174,6 +175,7 @@ module _ (lines : List Line) (readings written written' : Option (List ℕ)) (fa
     open_base = p.open_base;
     report = p.report;
     told = p.told;
+    counts = p.counts;
     text_is = p.text_is;
     left = p.left;
     cause = halts_taken p.report.replies count taken taken' p.cause over;

@@ -1,7 +1,7 @@
 -- How far a script has been played on a core.
 use Rattle.std.proofs.Common.{◌≡◌, inl, inr, ℕ, zero, suc, ◌+◌, ◌≤◌, ◌<◌, ◌==◌, Bool, true, false, cond, List, [], ◌∷◌, ◌++◌, map, length, get_or, refl, sym, ap, ◌∙◌, subst, arith}
 use Rattle.std.specs.Prelude.{Result, Ok, Err, OnErr}
-use Rattle.std.specs.List.{count_by}
+use Rattle.std.specs.List.{count_by, AllByRecursion}
 use Rattle.std.proofs.lemmas.List.Recursion.{is_count_by}
 use Rattle.td_limits.specs.declared.limits.TheConstants.{LAST_TIMESTAMP, SESSIONS}
 use Rattle.td_outside.specs.Causes.{Rose}
@@ -14,6 +14,7 @@ use Rattle.td_model.specs.declared.history.Verdict.{Verdict}
 use Rattle.td_model.specs.declared.history.Verdict.TheVariants.{Accept, Pass, Refuse}
 use Rattle.td_model.specs.declared.language.Stmt.{Stmt}
 use Rattle.td_model.specs.declared.report.Reply.{Reply}
+use Rattle.td_model.specs.declared.report.Reply.TheVariants as reply
 use Rattle.td_model.specs.State.{State}
 use Rattle.td_core.specs.CoreState.{CoreState}
 use Rattle.td_core.specs.Covers.{Covers}
@@ -25,6 +26,8 @@ use Rattle.td_told.specs.Numbers.{Replied}
 use Rattle.td_told.specs.Replies.{reply_line}
 use Rattle.td_told.proofs.Plays.{Plays, MayBe, asked_of, replied_with, by_end, nothing_played, reads_more, asked_more}
 use Rattle.td_told.proofs.Tells.{told_of_plays}
+use Rattle.td_printed.specs.Names.{IsCountedLine}
+use Rattle.td_printed.proofs.Says.{all_append}
 use Rattle.td_top.specs.Asks.{Asks, AsksAll}
 use Rattle.td_top.specs.Turns.{CountIs, LineTurn, HaltsBy, PlayedOn, RepliedOn, HasSome}
 use Rattle.td_top.proofs.Clocks.{MomentIs, Taken, turn_taken, left_first, moment_first, times}
@@ -95,19 +98,30 @@ halts_more : (rs : List (ℕ × ℕ × Reply)) (session ordinal : ℕ) (r : Repl
 halts_more [] session ordinal r e = e
 halts_more (x ∷ rs) session ordinal r e = ap (λ l. with_halt x.2 l) (halts_more rs session ordinal r e)
 
+-- where a halt is named, it stays named
+some_halt : (r : Reply) (l : List ℕ) → with_halt r l ≡ [] → l ≡ []
+some_halt (reply.StoreFaultHalt halt) l e = absurd (cc)
+some_halt _ l e = e
+
+halt_last : (rs : List (ℕ × ℕ × Reply)) (session ordinal halt : ℕ) (r : Reply) → r ≡ reply.StoreFaultHalt halt → halts_named (rs ++ reply_line_at session ordinal r ∷ []) ≡ [] → ⊥
+halt_last [] session ordinal halt r is none = named (sym (ap (λ x. with_halt x []) is) ∙ none) where
+  named : halt ∷ [] ≡ [] → ⊥
+  named e = cc
+halt_last (x ∷ rs) session ordinal halt r is none = halt_last rs session ordinal halt r is (some_halt x.2 _ none)
+
 -- no halt more, and the count is as it was
 same_halts : (rs : List (ℕ × ℕ × Reply)) (session ordinal : ℕ) (r : Reply) (before now now' : ℕ) → HaltsBy rs before now → with_halt r [] ≡ [] → now' ≡ now → HaltsBy (rs ++ reply_line_at session ordinal r ∷ []) before now'
 same_halts rs session ordinal r before now now' (inl h) e same = inl (halts_more rs session ordinal r e ∙ h.0, same ∙ h.1)
-same_halts rs session ordinal r before now now' (inr h) e same = inr (omega (arith, h, same))
+same_halts rs session ordinal r before now now' (inr h) e same = inr ((λ none. h.0 (sym (halts_more rs session ordinal r e) ∙ none)), subst (λ n. Rose before n) (sym same) h.1)
 
-rose_halts : (rs rs' : List (ℕ × ℕ × Reply)) (before now now' : ℕ) → HaltsBy rs before now → Rose now now' → HaltsBy rs' before now'
-rose_halts rs rs' before now now' (inl h) rose = inr (subst (λ n. Rose n now') h.1 rose)
-rose_halts rs rs' before now now' (inr h) rose = inr (rose_more before now now' h rose)
+rose_halts : (rs rs' : List (ℕ × ℕ × Reply)) (before now now' : ℕ) → (halts_named rs' ≡ [] → ⊥) → HaltsBy rs before now → Rose now now' → HaltsBy rs' before now'
+rose_halts rs rs' before now now' named (inl h) rose = inr (named, subst (λ n. Rose n now') h.1 rose)
+rose_halts rs rs' before now now' named (inr h) rose = inr (named, rose_more before now now' h.1 rose)
 
 halts_then : (q : Stmt) (e : End) (s : State) (session ordinal : ℕ) (r : Reply) (rs : List (ℕ × ℕ × Reply)) (before now now' : ℕ) → r ≡ reply_of q e s → CountIs e now now' → HaltsBy rs before now → HaltsBy (rs ++ reply_line_at session ordinal r ∷ []) before now'
 halts_then q (by_verdict v) s session ordinal r rs before now now' is count h = same_halts rs session ordinal r before now now' h (ap (λ x. with_halt x []) is ∙ verdict_no_halt q v s) count
 halts_then q starved s session ordinal r rs before now now' is count h = same_halts rs session ordinal r before now now' h (ap (λ x. with_halt x []) is) count
-halts_then q halted s session ordinal r rs before now now' is count h = rose_halts rs (rs ++ reply_line_at session ordinal r ∷ []) before now now' h count
+halts_then q halted s session ordinal r rs before now now' is count h = rose_halts rs (rs ++ reply_line_at session ordinal r ∷ []) before now now' (halt_last rs session ordinal (s.version + 1) r is) h count
 
 -- ---- the lines so far
 
@@ -157,6 +171,10 @@ goes_on old c c' lines rs rs' l r p turn replies =
       covers = t.covers old.readings old.state p.entries p.covers;
       cause = subst (λ (x : List (ℕ × ℕ × Reply)). HaltsBy x old.count c'.count) (sym own) (halts_then a.stmt t.end c.state a.session a.ordinal r rs old.count c.count c'.count t.turn.reply t.count p.cause);
     }
+
+-- one more reply, whose numbers are in range
+pub counted_more : (rs rs' : List (ℕ × ℕ × Reply)) (l : ℕ × ℕ × Reply) → AllByRecursion IsCountedLine rs → IsCountedLine l → rs' ≡ rs ++ l ∷ [] → AllByRecursion IsCountedLine rs'
+counted_more rs rs' l all one is = subst (AllByRecursion IsCountedLine) (sym is) (all_append IsCountedLine rs (l ∷ []) all (one, tt))
 
 pub some_entries : (old now : CoreState) (lines : List Line) (rs : List (ℕ × ℕ × Reply)) → Progress old now lines rs → HasSome old now
 some_entries old now lines rs p = (p.entries, p.covers)

@@ -6,3 +6,4 @@ pub mod Status
 pub mod Run
 pub mod Exit
 pub mod Program
+pub mod Laws

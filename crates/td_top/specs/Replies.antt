@@ -27,7 +27,8 @@ submit_reply q (submitted.StoreFault halt) = reply.StoreFaultHalt halt
 submit_reply q (submitted.Full held) = reply.NoMemory
 submit_reply q submitted.NoMemory = reply.NoMemory
 
--- The reply to a statement that is no write: that of its verdict in the state, or want of memory. The moment has no part in it.
+-- The reply to a statement that is no write: that of its verdict in the state, or want of memory. The moment has no
+-- part in it.
 abbrev pub IsReadReply : Stmt → State → Reply → Type 0
 IsReadReply q s r = (r ≡ reply_of q (by_verdict (verdict q s [] 0)) s) ⊎ (r ≡ reply.NoMemory)
 

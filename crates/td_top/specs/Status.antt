@@ -24,6 +24,7 @@ use Rattle.td_script.specs.declared.lines.Line.{Line}
 use Rattle.td_script.specs.declared.lines.ScriptFault.{ScriptFault}
 use Rattle.td_script.specs.declared.lines.ScriptFault.TheVariants as script_fault
 use Rattle.td_script.specs.Script.{IsScript, FirstOutside}
+use Rattle.td_printed.specs.Names.{HasCounts}
 use Rattle.td_top.specs.Asks.{TellsLines}
 use Rattle.td_top.specs.Turns.{HaltCause, LeavesBy, PlayedText, HasSome}
 use Rattle.td_top.specs.Stream.{ReadWhole, ReadTooMuch, WroteFront}
@@ -32,8 +33,9 @@ use Rattle.td_top.specs.declared.stream.ReadFault.TheVariants as read_fault
 use Rattle.td_top.specs.declared.status.Status.{Status}
 use Rattle.td_top.specs.declared.status.Status.TheVariants as status
 
--- What a run changes beside its input: the bytes that the sink took, where it tells them, and how often it failed; the image of
--- the place's store, where it tells it, how often the place failed, and how often the stores failed that it took back.
+-- What a run changes beside its input: the bytes that the sink took, where it tells them, and how often it failed; the
+-- image of the place's store, where it tells it, how often the place failed, and how often the stores failed that it
+-- took back.
 pub record Effects : Type 0 where
   pub written : Option (List ℕ)
   pub output_faults : ℕ
@@ -65,8 +67,8 @@ store_effects written output_faults told count out store =
       taken = count store;
     }
 
--- What stands outside at a moment: the bytes that the source has left, where it tells them, how many bytes it gave, and how
--- often it failed; and what a run changes beside.
+-- What stands outside at a moment: the bytes that the source has left, where it tells them, how many bytes it gave, and
+-- how often it failed; and what a run changes beside.
 pub record Outside : Type 0 where
   pub left : Option (List ℕ)
   pub given : ℕ
@@ -80,9 +82,10 @@ outside left given input_faults input effects =
 
 -- ---- a script that was played
 
--- The report tells the run of the statements of these lines, from a state on for which the store stood, and which has no halt.
--- The store left stands for what the entries make of that state; after a halt it stands for the state before it, or for that
--- with the entry that was tried. A halt comes only where the store failed.
+-- The report tells the run of the statements of these lines, from a state on for which the store stood, and which has
+-- no halt. The store left stands for what the entries make of that state; after a halt it stands for the state before
+-- it, or for that with the entry that was tried. A halt comes only where the store failed. The report's numbers are in
+-- the range of their types.
 pub record Plays
     (readings : Option (List ℕ)) (lines : List Line) (before after : Effects) (text : List ℕ)
     : Type 0 where
@@ -91,6 +94,7 @@ pub record Plays
   pub open_base : base.halt ≡ None
   pub report : Report
   pub told : TellsLines base readings lines report
+  pub counts : HasCounts report
   pub text_is : text ≡ report_text report
   pub left : LeavesBy base told.told.told.entries after.image
   pub cause : HaltCause report.replies before.taken after.taken
@@ -99,8 +103,8 @@ pub record Plays
 abbrev pub WroteNothing : Effects → Effects → Type 0
 WroteNothing before after = Keeps before.written after.written × (after.output_faults ≡ before.output_faults)
 
--- The store wasn't opened, since it or its place failed: nothing was written, and the store left stands for the states for
--- which it stood.
+-- The store wasn't opened, since it or its place failed: nothing was written, and the store left stands for the states
+-- for which it stood.
 pub record Unopened (before after : Effects) : Type 0 where
   pub nothing : WroteNothing before after
   pub cause : Rose before.place_faults after.place_faults ⊎ Rose before.taken after.taken
@@ -114,8 +118,8 @@ pub record Unleft (readings : Option (List ℕ)) (lines : List Line) (before aft
   pub output_calm : after.output_faults ≡ before.output_faults
   pub cause : Rose before.place_faults after.place_faults
 
--- The store breaks the form of a store first at a place. Nothing was written, and the store is as it was, but for readers that
--- another process had open.
+-- The store breaks the form of a store first at a place. Nothing was written, and the store is as it was, but for
+-- readers that another process had open.
 pub record Strange (file : FileId) (at : ℕ) (before after : Effects) : Type 0 where
   pub nothing : WroteNothing before after
   pub breaks : IfSome before.image (λ image. BreaksFirst image file at)
@@ -144,8 +148,8 @@ PlaysAt readings lines before after (status.NotThisStore file at) = Strange file
 PlaysAt readings lines before after status.NoMemory = Starves before after
 PlaysAt readings lines before after s = ⊥
 
--- What a status says of a script's lines that were played on a core: the report was written, or a front of it where the sink
--- failed, or there was no memory, and then nothing was written and the core has the entries of the lines so far.
+-- What a status says of a script's lines that were played on a core: the report was written, or a front of it where the
+-- sink failed, or there was no memory, and then nothing was written and the core has the entries of the lines so far.
 abbrev pub PlaysCore : List Line → CoreState → CoreState → Option (List ℕ) → Option (List ℕ) → ℕ → ℕ → Status → Type 0
 PlaysCore lines old new written written' count count' status.Done =
     (text : List ℕ) × PlayedText old new lines text × Appends written written' text × (count' ≡ count)
@@ -209,8 +213,8 @@ pub record Holds (before after : Outside) (image : Image) : Type 0 where
   pub steady_place : ¬ (Rose before.effects.place_faults after.effects.place_faults)
   pub steady_store : ¬ (Rose before.effects.taken after.effects.taken)
 
--- Over a source that tells its bytes and doesn't fail, the bytes and the image of the store determine the status, but for want
--- of memory and devices that fail.
+-- Over a source that tells its bytes and doesn't fail, the bytes and the image of the store determine the status, but
+-- for want of memory and devices that fail.
 pub record Completes (before after : Outside) (s : Status) : Type 0 where
   -- a script within the limit is played on a store that stands for a state, where the sink doesn't fail either
   pub done : (bytes : List ℕ) (lines : List Line) (image : Image) (b : State)

@@ -1,5 +1,5 @@
 -- A line's turn on a core: its moment, how it ends, and what it leaves; and what the lines of a script together give.
-use Rattle.std.specs.Prelude.{◌≡◌, ◌⊎◌, ℕ, ◌≤◌, max, Bool, true, false, List, [], ◌++◌, Option, IfSome}
+use Rattle.std.specs.Prelude.{◌≡◌, ◌≢◌, ◌⊎◌, ℕ, ◌≤◌, max, Bool, true, false, List, [], ◌++◌, Option, IfSome}
 use Rattle.td_limits.specs.declared.limits.TheConstants.{LAST_TIMESTAMP}
 use Rattle.td_model.specs.declared.history.Entry.{Entry}
 use Rattle.td_model.specs.declared.language.Stmt.{Stmt}
@@ -17,6 +17,7 @@ use Rattle.td_told.specs.Journal.{halts_named}
 use Rattle.td_told.specs.Times.{WereTaken}
 use Rattle.td_told.specs.Verdict.{reads_clock, verdict}
 use Rattle.td_told.specs.Turn.{End, by_verdict, starved, halted, Judged, TurnIs, line_then, entry_then, as_list, reads}
+use Rattle.td_printed.specs.Names.{HasCounts}
 use Rattle.td_top.specs.Asks.{Asks, TellsLines}
 
 -- ---- moments
@@ -42,13 +43,14 @@ CountIs (by_verdict v) before now = now ≡ before
 CountIs starved before now = now ≡ before
 CountIs halted before now = Rose before now
 
--- A statement's turn on a core. Its moment is the greatest that the core has given then. It ends by the verdict at that moment,
--- for want of memory, or by a fault of the store; reply, line, state and entry are those of its end.
+-- A statement's turn on a core. Its moment is the greatest that the core has given then. It ends by the verdict at that
+-- moment, for want of memory, or by a fault of the store; reply, line, state and entry are those of its end.
 pub record TurnOn (q : Stmt) (session ordinal : ℕ) (old new : CoreState) (r : Reply) : Type 0 where
   pub takes : TakesMoment q old.readings new.readings old.floor new.floor
   pub end : End
   pub judged : Judged end (verdict q old.state [] new.floor)
-  pub turn : TurnIs q end old.state new.state session ordinal new.floor r (line_then end old.state session ordinal new.floor)
+  pub turn : TurnIs q end old.state new.state session ordinal new.floor r
+      (line_then end old.state session ordinal new.floor)
   pub journal : new.journal ≡ old.journal ++ as_list (line_then end old.state session ordinal new.floor)
   pub covers : (opened : Option (List ℕ)) (b : State) (h : List Entry)
       → Covers opened old b h → Covers opened new b (h ++ entry_then end session ordinal new.floor)
@@ -62,31 +64,33 @@ pub record LineTurn (l : Line) (old new : CoreState) (r : Reply) : Type 0 where
 
 -- ---- the lines of a script
 
--- no reply names a halt, and no fault was counted; or faults were counted
+-- no reply names a halt, and no fault was counted; or one does, and faults were counted
 abbrev pub HaltsBy : List (ℕ × ℕ × Reply) → ℕ → ℕ → Type 0
-HaltsBy replies before now = ((halts_named replies ≡ []) × (now ≡ before)) ⊎ Rose before now
+HaltsBy replies before now =
+    ((halts_named replies ≡ []) × (now ≡ before)) ⊎ ((halts_named replies ≢ []) × Rose before now)
 
 -- a reply names a halt only where faults were counted
 abbrev pub HaltCause : List (ℕ × ℕ × Reply) → ℕ → ℕ → Type 0
 HaltCause replies before now = (halts_named replies ≡ []) ⊎ Rose before now
 
--- An image that is told stands for what entries make of a state. After a halt it stands for the state before it, or for that
--- with the entry that was tried.
+-- An image that is told stands for what entries make of a state. After a halt it stands for the state before it, or for
+-- that with the entry that was tried.
 abbrev pub LeavesBy : State → List Entry → Option Image → Type 0
 LeavesBy b h image = IfSome image (λ i. ImageIsBy (after b h).halt i b h)
 
--- The report tells the run of the statements of the lines on a core, from its state on. The clock was read as often as the
--- script has writes and texts that are no statement. The core has the entries of the run.
+-- The report tells the run of the statements of the lines on a core, from its state on. The clock was read as often as
+-- the script has writes and texts that are no statement. The core has the entries of the run.
 pub record PlayedOn (old new : CoreState) (lines : List Line) (r : Report) : Type 0 where
   pub tells : TellsLines old.state old.readings lines r
   pub readings : WereTaken old.readings (reads tells.script) new.readings
   pub covers : Covers old.readings new old.state tells.told.told.entries
   pub cause : HaltsBy r.replies old.count new.count
 
--- the text is that of the report
+-- the text is that of the report, whose numbers are in the range of their types
 pub record PlayedText (old new : CoreState) (lines : List Line) (text : List ℕ) : Type 0 where
   pub report : Report
   pub played : PlayedOn old new lines report
+  pub counts : HasCounts report
   pub text_is : text ≡ report_text report
 
 -- the replies are those of such a report, whose journal is the core's

@@ -72,7 +72,8 @@ fn status_of<R: Threads + Wait + Sync, I: Source, O: Sink, P: Place, C: Clock, G
 
 // Writes a number.
 fn write_number<E: Sink>(err: &mut E, number: u64) -> Result<(), Failed>
-    ensures { Writes (E.written err.old) (E.written err.new) (E.count err.old) (E.count err.new) result (decimal number) }
+    ensures { Writes (E.written err.old) (E.written err.new) (E.count err.old) (E.count err.new) result
+        (decimal number) }
 {
     let mut digits = Buffer::new();
     write_all(err, digits.format(number).as_bytes())
@@ -89,7 +90,8 @@ fn write_numbered<E: Sink>(err: &mut E, words: &[u8], number: u64) -> Result<(),
 
 // Writes the name of a file of a store.
 fn write_file<E: Sink>(err: &mut E, file: FileId) -> Result<(), Failed>
-    ensures { Writes (E.written err.old) (E.written err.new) (E.count err.old) (E.count err.new) result (file_text file) }
+    ensures { Writes (E.written err.old) (E.written err.new) (E.count err.old) (E.count err.new) result
+        (file_text file) }
 {
     match file {
         FileId::Head => write_all(err, b"head"),
@@ -100,7 +102,8 @@ fn write_file<E: Sink>(err: &mut E, file: FileId) -> Result<(), Failed>
 
 // Writes a place in a file of a store.
 fn write_place<E: Sink>(err: &mut E, file: FileId, at: u64) -> Result<(), Failed>
-    ensures { Writes (E.written err.old) (E.written err.new) (E.count err.old) (E.count err.new) result (place_text file at) }
+    ensures { Writes (E.written err.old) (E.written err.new) (E.count err.old) (E.count err.new) result
+        (place_text file at) }
 {
     write_file(err, file)?;
     write_numbered(err, b" at ", at)
@@ -108,7 +111,8 @@ fn write_place<E: Sink>(err: &mut E, file: FileId, at: u64) -> Result<(), Failed
 
 // Writes the rest of a status' line, behind its words.
 fn write_rest<E: Sink>(err: &mut E, status: Status) -> Result<(), Failed>
-    ensures { Writes (E.written err.old) (E.written err.new) (E.count err.old) (E.count err.new) result (status_rest status) }
+    ensures { Writes (E.written err.old) (E.written err.new) (E.count err.old) (E.count err.new) result
+        (status_rest status) }
 {
     match status {
         Status::BadScript(line) => write_number(err, line),
@@ -166,7 +170,8 @@ pub fn program<R: Threads + Wait + Sync, I: Source, O: Sink, E: Sink, P: Place, 
     requires inside { P.is_out place.old ≡ false }
     ensures runs { (status : Status) × (exit_status result ≡ exit_number status)
         × WroteLine (E.written err.old) (E.written err.new) (E.count err.old) (E.count err.new) (status_line status)
-        × (let before = seen I.left I.given I.count O.written O.count P.told P.count P.taken input.old out.old place.old in
+        × (let before = seen I.left I.given I.count O.written O.count P.told P.count P.taken input.old out.old
+        place.old in
         let after = seen I.left I.given I.count O.written O.count P.told P.count P.taken input.new out.new place.new in
         MatchResult args
         (λ args. RunsWords (map string_bytes (into_iter_items args)) (C.readings clock) before after status)

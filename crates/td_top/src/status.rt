@@ -28,10 +28,11 @@ pub enum Status {
     InputFault,
     /// A write failed. What was written is a front of the report.
     OutputFault,
-    /// The directory couldn't be entered or the store not opened, and nothing was written; or the directory failed as it was left,
-    /// and the report was written.
+    /// The directory couldn't be entered or the store not opened, and nothing was written; or the directory failed as
+    /// it was left, and the report was written.
     StoreFault,
-    /// The store breaks the form of a store first in this file, at this place in bytes from 0. Nothing was written or changed.
+    /// The store breaks the form of a store first in this file, at this place in bytes from 0. Nothing was written or
+    /// changed.
     NotThisStore { file: FileId, at: u64 },
 }
 

@@ -25,7 +25,8 @@ use td_words::{Command, is_dir, read_command};
 fn script_of<I: Source>(alloc: Global, input: &mut I) -> Result<Seq<Line>, Status>
     ensures script { IfOk result (λ lines. ReadScript (I.left input.old) (I.left input.new) lines) }
     ensures calm { OnOk result (I.count input.new ≡ I.count input.old) }
-    ensures ended { IfErr result (λ s. Ended (I.left input.old) (I.left input.new) (I.count input.old) (I.count input.new) s) }
+    ensures ended { IfErr result (λ s. Ended (I.left input.old) (I.left input.new) (I.count input.old)
+        (I.count input.new) s) }
     ensures few { TookFew (I.left input.old) (I.left input.new) }
     ensures given { GaveFew (I.given input.old) (I.given input.new) }
 {
@@ -42,10 +43,12 @@ fn play_on_core<O: Sink, S: Store, C: Clock>(
     out: &mut O,
 ) -> Status
     requires numbered { Numbered [] lines.now }
-    requires covers { Covers (C.readings core.old.clock) (core_seen S.told S.count C.readings core.old) core.old.state [] }
+    requires covers { Covers (C.readings core.old.clock) (core_seen S.told S.count C.readings core.old)
+        core.old.state [] }
     requires floor { (core.old.floor ≡ core.old.state.moment) × (core.old.floor ≤ LAST_TIMESTAMP) }
     requires base { (core.old.base ≡ core.old.state.version) × (core.old.journal ≡ []) }
-    ensures plays { PlaysCore lines.now (core_seen S.told S.count C.readings core.old) (core_seen S.told S.count C.readings core.new)
+    ensures plays { PlaysCore lines.now (core_seen S.told S.count C.readings core.old)
+        (core_seen S.told S.count C.readings core.new)
         (O.written out.old) (O.written out.new) (O.count out.old) (O.count out.new) result }
     ensures sink { writes result ≡ false → out.new ≡ out.old }
 {
@@ -139,7 +142,8 @@ fn run<I: Source, O: Sink, P: Place, C: Clock>(
     requires inside { P.is_out place.old ≡ false }
     ensures says { Says (C.readings clock)
         (outside I.left I.given I.count input.old (effects O.written O.count P.told P.count P.taken out.old place.old))
-        (outside I.left I.given I.count input.new (effects O.written O.count P.told P.count P.taken out.new place.new)) result }
+        (outside I.left I.given I.count input.new
+        (effects O.written O.count P.told P.count P.taken out.new place.new)) result }
     ensures few { TookFew (I.left input.old) (I.left input.new) }
     ensures given { GaveFew (I.given input.old) (I.given input.new) }
     ensures sink { writes result ≡ false → out.new ≡ out.old }
@@ -152,13 +156,15 @@ fn run<I: Source, O: Sink, P: Place, C: Clock>(
     }
 }
 
-/// Plays the script of the input on the store of a directory, and writes the report. The store isn't out, and it isn't after.
+/// Plays the script of the input on the store of a directory, and writes the report. The store isn't out, and it isn't
+/// after.
 ///
-/// At `Done` the input was read to its end and is a script, and the bytes written are the text of one report, which tells the
-/// script's run in the order of its lines, from the state on for which the store stood; at `OutputFault` a front of that text was
-/// written. The store left stands for what the accepted statements made of that state; after a halt, for the state before it or
-/// for that with the statement that was tried. Each other status comes as `Status` says, in its order, and writes nothing, but
-/// for a directory that fails as it is left. At most 67108865 bytes are read.
+/// At `Done` the input was read to its end and is a script, and the bytes written are the text of one report, which
+/// tells the script's run in the order of its lines, from the state on for which the store stood; at `OutputFault` a
+/// front of that text was written. The store left stands for what the accepted statements made of that state; after a
+/// halt, for the state before it or for that with the statement that was tried. Each other status comes as `Status`
+/// says, in its order, and writes nothing, but for a directory that fails as it is left. At most 67108865 bytes are
+/// read.
 pub fn play<I: Source, O: Sink, P: Place, C: Clock>(
     alloc: Global,
     dir: &[u8],

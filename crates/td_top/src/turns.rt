@@ -57,7 +57,8 @@ fn write_turn<S: Store, C: Clock>(
     requires session { (1 ≤ session) × (session ≤ SESSIONS) }
     requires parsed { IsAnswer text.now stmt.now }
     requires write { IsTrue (reads_clock stmt.now) }
-    ensures { TurnOn stmt.now session ordinal (seen S.told S.count C.readings core.old) (seen S.told S.count C.readings core.new) result }
+    ensures { TurnOn stmt.now session ordinal (seen S.told S.count C.readings core.old)
+        (seen S.told S.count C.readings core.new) result }
 {
     let submitted = core.submit(session, ordinal, text, stmt);
     reply_of(stmt, submitted)
@@ -85,7 +86,8 @@ fn whole_answer<S: Store>(pinned: &mut Pinned<S>) -> Result<Reply, NoMem>
 fn pinned_reply<S: Store, C: Clock>(core: &mut Core<S, C>, pinned: Pinned<S>) -> Reply
     ensures core { core.new ≡ core.old }
     ensures reply { (q : AQuery) (s : State) → Sees pinned q s 0
-        → (result ≡ Reply.Answer s.version (header (Stmt.Select q) s) (answer (Stmt.Select q) s)) ⊎ (result ≡ Reply.NoMemory) }
+        → (result ≡ Reply.Answer s.version (header (Stmt.Select q) s) (answer (Stmt.Select q) s))
+        ⊎ (result ≡ Reply.NoMemory) }
 {
     let mut pinned = pinned;
     let reply = match whole_answer(&mut pinned) {
@@ -162,7 +164,8 @@ fn turn<S: Store, C: Clock>(
 ) -> Reply
     requires session { (1 ≤ session) × (session ≤ SESSIONS) }
     requires parsed { IsAnswer text.now stmt.now }
-    ensures { TurnOn stmt.now session ordinal (seen S.told S.count C.readings core.old) (seen S.told S.count C.readings core.new) result }
+    ensures { TurnOn stmt.now session ordinal (seen S.told S.count C.readings core.old)
+        (seen S.told S.count C.readings core.new) result }
 {
     if reads_clock(stmt) {
         write_turn(core, session, ordinal, text, stmt)
@@ -178,7 +181,8 @@ pub(crate) fn line_turn<S: Store, C: Clock>(
     line: &Line,
 ) -> Result<Reply, NoMem>
     requires { (1 ≤ line.now.session) × (line.now.session ≤ SESSIONS) }
-    ensures turn { IfOk result (λ r. LineTurn line.now (seen S.told S.count C.readings core.old) (seen S.told S.count C.readings core.new) r) }
+    ensures turn { IfOk result (λ r. LineTurn line.now (seen S.told S.count C.readings core.old)
+        (seen S.told S.count C.readings core.new) r) }
     ensures kept { OnErr result (core.new ≡ core.old) }
 {
     let stmt = statement(alloc, line.text.as_slice())?;
