@@ -1,10 +1,11 @@
 -- Entries that are written field by field.
-use Rattle.std.proofs.Common.{◌≡◌, ℕ, ◌+◌, ◌-◌, ◌^◌, true, ℤ, pos, neg_ℤ, List, [], ◌∷◌, ◌++◌, map, length, Option, refl, sym, ap, ◌∙◌, arith}
-use Rattle.std.specs.Prelude.{◌&&◌, ◌≤ℤ◌, ◌<ℤ◌, int_le, slice_index}
+use Rattle.std.proofs.Common.{◌≡◌, ℕ, suc, ◌+◌, ◌-◌, ◌^◌, true, ℤ, pos, neg_ℤ, List, [], ◌∷◌, ◌++◌, map, length, Option, refl, sym, ap, ◌∙◌, arith}
+use Rattle.std.specs.Prelude.{◌&&◌, ◌≤ℤ◌, ◌<ℤ◌, int_le, slice_index, slice_get, Some}
+use Rattle.td_datafile.specs.Entries.{behind, behind_last, behind_entry}
 use Rattle.std.specs.Int.{w16, w32, w64, to_le_bytes}
 use Rattle.std.specs.List.{flat_map}
 use Rattle.std.proofs.lemmas.Int.{ints}
-use Rattle.std.proofs.lemmas.List.{append_assoc, append-nil, length-map}
+use Rattle.std.proofs.lemmas.List.{append_assoc, append-nil, length-map, length-append}
 use Rattle.std.proofs.lemmas.List.FromFn.{map-range_with_len_more, length-map-range_with_len}
 use Rattle.std.proofs.lemmas.List.Concat.{flat_map-append}
 use Rattle.td_cols.specs.declared.kinds.Kind.TheVariants.{Wide}
@@ -68,3 +69,14 @@ entry_added start a b c d e f g h at size first last blk ia ib ic id ie if_ ig i
     all ∙ counted ∙ ap (λ (x : Entry). start ++ entry_bytes x) (made_same at size _ blk.table (length blk.rows) first _ last _ columns is is_first is_last) where
       chain : (a b c d e f g h p q r s t u v w : List ℕ) → a ≡ start ++ p → b ≡ a ++ q → c ≡ b ++ r → d ≡ c ++ s → e ≡ d ++ t → f ≡ e ++ u → g ≡ f ++ v → h ≡ g ++ w → h ≡ (((((((start ++ p) ++ q) ++ r) ++ s) ++ t) ++ u) ++ v) ++ w
       chain a b c d e f g h p q r s t u v w ia ib ic id ie if_ ig ih = cc
+
+last_of : (before : List Entry) (last : Entry) → slice_get (before ++ last ∷ []) (length (before ++ last ∷ []) - 1) ≡ Some last
+last_of [] last = refl
+last_of (b ∷ []) last = refl
+last_of (b ∷ c ∷ before) last =
+    let at : suc (length (c ∷ before ++ last ∷ [])) - 1 ≡ suc (length (c ∷ before ++ last ∷ []) - 1) = omega arith in
+    ap (λ (n : ℕ). slice_get (b ∷ c ∷ before ++ last ∷ []) n) at ∙ last_of (c ∷ before) last
+
+-- what stands behind entries is what stands behind the last of them
+pub behind_more : (before : List Entry) (last : Entry) → behind (before ++ last ∷ []) ≡ behind_entry last
+behind_more before last = ap behind_last (last_of before last)

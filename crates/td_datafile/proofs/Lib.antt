@@ -3,3 +3,15 @@ pub mod SumLaws
 pub mod EntryLaws
 pub mod IndexLaws
 pub mod Vectors
+pub mod OpeningLaws
+pub mod Spelling
+pub mod Heads
+pub mod Named
+pub mod Order
+pub mod Rising
+pub mod Walks
+pub mod States
+pub mod Fits
+pub mod Contents
+pub mod Openings
+pub mod Tables

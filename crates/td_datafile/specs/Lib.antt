@@ -1,3 +1,10 @@
 pub mod Sums
 pub mod Index
 pub mod Written
+pub mod Entries
+pub mod Opening
+pub mod Blocks
+pub mod Scanned
+pub mod Contents
+pub mod Scanning
+pub mod Reading

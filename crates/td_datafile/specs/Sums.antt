@@ -23,7 +23,8 @@ no_numbers = record { count = 0; sum = pos 0; least = pos 0; greatest = pos 0 }
 -- The summary of numbers: how many there are, their sum, the least and the greatest; all are 0 where there is none.
 abbrev pub summary_of : List ℤ → Summary
 summary_of [] = no_numbers
-summary_of (n ∷ ns) = record { count = length (n ∷ ns); sum = sum_of (n ∷ ns); least = least n ns; greatest = greatest n ns }
+summary_of (n ∷ ns) =
+    record { count = length (n ∷ ns); sum = sum_of (n ∷ ns); least = least n ns; greatest = greatest n ns }
 
 -- the summaries of the first so many columns of rows
 abbrev pub summaries : ℕ → Rows → List Summary

@@ -74,6 +74,8 @@ fn push_answer<L: Ledger>(
         "scan" => scans::push_scanned(out, alloc, text, steps),
         "fail" => scans::push_failing(out, alloc, text, steps),
         "cut" => scans::push_cuts(out, alloc, text, steps),
+        "data" => scans::push_data(out, alloc, text, steps),
+        "datafail" => scans::push_failing_data(out, alloc, text, steps),
         _ => Err(CaseFault::Unread),
     }
 }

@@ -1,4 +1,4 @@
-//! Scans of stt files.
+//! Scans of files.
 use crate::blocks::{kinds_of, push_number, push_row};
 use crate::file::CaseFile;
 use crate::hex::bytes_of;
@@ -7,7 +7,7 @@ use std::sync::ledger::Ledger;
 use td_cases::{CaseFault, Out};
 use td_cols::Kind;
 use td_layer::{Key, RowScan, ScanFault, Seq, Steps};
-use td_sttfile::{FileScan, scan};
+use td_sttfile::scan;
 
 // No file of a case has as many rows.
 const MOST: u32 = 1 << 20;
@@ -46,8 +46,8 @@ fn asked_of(alloc: Global, text: &str) -> Result<Asked, CaseFault> {
     })
 }
 
-/// `scan TABLE KINDS LO HI BYTES`: the partials of a table of a file with columns of these kinds, from one timestamp to
-/// another, each with `cut` behind it where it lies in a cut, and `end`; or where the file is damaged.
+/// `scan TABLE KINDS LO HI BYTES`: the partials of a table of an stt file with columns of these kinds, from one
+/// timestamp to another, each with `cut` behind it where it lies in a cut, and `end`; or where the file is damaged.
 pub(crate) fn push_scanned<L: Ledger>(
     out: &mut Out,
     alloc: Global,
@@ -91,9 +91,55 @@ fn push_asked<L: Ledger>(
     pushed
 }
 
-fn push_all<L: Ledger>(
+/// `data TABLE KINDS LO HI BYTES`: the partials of a table of a data file with columns of these kinds, from one
+/// timestamp to another, and `end`; or where the file is damaged.
+pub(crate) fn push_data<L: Ledger>(
     out: &mut Out,
-    scan: &mut FileScan<'_, CaseFile>,
+    alloc: Global,
+    text: &str,
+    steps: &mut Steps<L>,
+) -> Result<(), CaseFault> {
+    push_asked_data(out, alloc, 0, text, steps)
+}
+
+/// `datafail CALL TABLE KINDS LO HI BYTES`: the same, where a call of the reader fails; the scan is then asked again.
+pub(crate) fn push_failing_data<L: Ledger>(
+    out: &mut Out,
+    alloc: Global,
+    text: &str,
+    steps: &mut Steps<L>,
+) -> Result<(), CaseFault> {
+    let (call, text) = text.split_once(' ').unwrap_or((text, ""));
+    let call = number_of(Some(call))?;
+    push_asked_data(out, alloc, call, text, steps)
+}
+
+fn push_asked_data<L: Ledger>(
+    out: &mut Out,
+    alloc: Global,
+    fails: u64,
+    text: &str,
+    steps: &mut Steps<L>,
+) -> Result<(), CaseFault> {
+    let Asked {
+        table,
+        kinds,
+        lo,
+        hi,
+        bytes,
+    } = asked_of(alloc, text)?;
+    let file = CaseFile::new(Seq::from_vec(alloc, bytes), fails);
+    let mut scan = td_datafile::scan(alloc, file, table, kinds.as_slice(), lo, hi);
+    let pushed = push_all(out, &mut scan, steps);
+    let file = scan.into_reader();
+    drop(file);
+    pushed
+}
+
+// Adds what the calls of a scan answer.
+fn push_all<S: RowScan, L: Ledger>(
+    out: &mut Out,
+    scan: &mut S,
     steps: &mut Steps<L>,
 ) -> Result<(), CaseFault> {
     for _ in 0..MOST {
@@ -105,9 +151,9 @@ fn push_all<L: Ledger>(
 }
 
 // Adds what the next call of a scan answers: whether it may be asked again.
-fn push_next<L: Ledger>(
+fn push_next<S: RowScan, L: Ledger>(
     out: &mut Out,
-    scan: &mut FileScan<'_, CaseFile>,
+    scan: &mut S,
     steps: &mut Steps<L>,
 ) -> Result<bool, CaseFault> {
     match scan.next(steps) {

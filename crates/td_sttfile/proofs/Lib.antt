@@ -1,7 +1,9 @@
 pub mod Adding
+pub mod Bytes
 pub mod Contents
 pub mod Headers
 pub mod Heads
+pub mod Narrow
 pub mod Numbers
 pub mod Openings
 pub mod Order

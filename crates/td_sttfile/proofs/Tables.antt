@@ -11,7 +11,6 @@ use Rattle.std.proofs.lemmas.List.Elements.{filter-append}
 use Rattle.std.proofs.lemmas.List.Concat.{flat_map-cons, flat_map-append}
 use Rattle.td_limits.specs.declared.limits.TheConstants.{BLOCK_ROWS}
 use Rattle.td_cols.specs.declared.kinds.Kind.{Kind}
-use Rattle.td_cols.specs.Spelling.{AreBytes}
 use Rattle.td_layer.specs.declared.values.Key.{Key}
 use Rattle.td_layer.specs.declared.parts.Partial.{Partial}
 use Rattle.td_layer.specs.Keys.{AllAfter, RisesBy}
@@ -27,6 +26,7 @@ use Rattle.td_sttfile.specs.Blocks.{is_behind, key_of}
 use Rattle.td_sttfile.specs.Opening.{opening_length, opening_at, as_cut}
 use Rattle.td_sttfile.specs.Scanned.{Want, is_wanted, wanted_of, keyed, before_all, behind_opening, cuts_opened, scanned, cuts_of_file}
 use Rattle.td_sttfile.specs.Contents.{wanted_in, partials_of, IsWantedTable}
+use Rattle.td_sttfile.proofs.Bytes.{file_small}
 use Rattle.td_sttfile.proofs.Openings.{opening_bytes, blocks_bytes, file_parts, opening_size, opening_read}
 use Rattle.td_sttfile.proofs.Contents.{last_key, Follow, Stands, Chain, wanted_block, all_wanted, gives, walk_blocks}
 
@@ -206,9 +206,9 @@ tables_wanted want (t ∷ ts) =
 opened : (range : ℕ) (tables : List TableRows) → range < 2 ^ 32 → CanWrite range tables → opening_at (bytes_of_list range tables) ≡ Ok ((Rattle.td_sttfile.specs.declared.format.TheConstants.FILE_MAGIC, (range, (all_cuts tables, length (all_blocks tables)))), opening_length (length (all_cuts tables)))
 opened range tables r can = opening_read range (all_cuts tables) (all_blocks tables) r can.few can.rows.few can.cuts
 
-pub scanned_back : (want : Want) (range : ℕ) (tables : List TableRows) → range < 2 ^ 32 → CanWrite range tables → AllByRecursion (IsWantedTable want) tables → AreBytes (bytes_of_list range tables) → scanned want (bytes_of_list range tables) ≡ gives (partials_of want tables)
+pub scanned_back : (want : Want) (range : ℕ) (tables : List TableRows) → range < 2 ^ 32 → CanWrite range tables → AllByRecursion (IsWantedTable want) tables → scanned want (bytes_of_list range tables) ≡ gives (partials_of want tables)
 unfolding scanned
-scanned_back want range tables r can wanted are =
+scanned_back want range tables r can wanted =
     let all = bytes_of_list range tables in
     let cuts = all_cuts tables in
     let blocks = all_blocks tables in
@@ -216,7 +216,7 @@ scanned_back want range tables r can wanted are =
     let behind : drop at all ≡ blocks_bytes blocks = ap (drop at) (file_parts range cuts blocks) ∙ drop_at (opening_bytes range cuts (length blocks)) (blocks_bytes blocks) at (opening_size range (length blocks) cuts) in
     let chain = tables_chain want range tables before_all can.rows.rise can.rows.each wanted in
     ap (behind_opening want all) (opened range tables r can)
-    ∙ walk_blocks want range blocks all at before_all (to_le_bytes w32 Rattle.td_sttfile.specs.declared.format.TheConstants.FILE_END) behind (AreBytes-drop at all are) chain
+    ∙ walk_blocks want range blocks all at before_all (to_le_bytes w32 Rattle.td_sttfile.specs.declared.format.TheConstants.FILE_END) behind (AreBytes-drop at all (file_small want range before_all cuts blocks chain)) chain
     ∙ ap gives (tables_wanted want tables)
 
 pub cuts_back : (range : ℕ) (tables : List TableRows) → range < 2 ^ 32 → CanWrite range tables → cuts_of_file (bytes_of_list range tables) ≡ map as_cut (all_cuts tables)

@@ -41,7 +41,8 @@ key_of table row = record { table = table; ts = row.0 }
 abbrev pub rows_checked : ℕ → ℕ → Key → ℕ → Rows → Result Key ℕ
 rows_checked range table last place [] = Ok last
 rows_checked range table last place (row ∷ rows) =
-    (if is_behind last (key_of table row) && is_in_day range row.0 then rows_checked range table (key_of table row) (place + 8) rows else Err place)
+    (if is_behind last (key_of table row) && is_in_day range row.0
+    then rows_checked range table (key_of table row) (place + 8) rows else Err place)
 
 -- ---- blocks
 
@@ -57,7 +58,9 @@ own_length kinds head = (if length kinds == head.columns then block_length head.
 
 -- what is taken of a block of the table that is read, at a place behind a key
 abbrev pub own_found : ℕ → ℕ → Key → ℕ → Block → Result Found ℕ
-own_found table range last at b = rows_checked range table last (at + 14) b.rows >>= λ key. Ok (record { rows = b.rows; next = at + b.used; last = key })
+own_found table range last at b =
+    rows_checked range table last (at + 14) b.rows
+    >>= λ key. Ok (record { rows = b.rows; next = at + b.used; last = key })
 
 -- The block of the table that is read, with this head: its rows, the place behind it and its last key.
 unfoldable pub own_at : List Kind → ℕ → ℕ → Key → Head → ℕ → List ℕ → Result Found ℕ
@@ -90,7 +93,8 @@ other_at last at all = passed_over (length all) last at (ends_read (drop at all)
 
 -- A block of the table that is read, or of one below it, with this head.
 abbrev pub found_at : List Kind → ℕ → ℕ → Key → Head → ℕ → List ℕ → Result Found ℕ
-found_at kinds table range last head at all = (if nat_lt head.table table then other_at last at all else own_at kinds table range last head at all)
+found_at kinds table range last head at all =
+    (if nat_lt head.table table then other_at last at all else own_at kinds table range last head at all)
 
 -- The block at a place behind those whose last key is given: what is read of it, or nothing where it is of a table
 -- above the one that is read, behind which none of that table can stand.

@@ -5,4 +5,5 @@ pub mod Contents
 pub mod Blocks
 pub mod Reading
 pub mod Scanned
+pub mod Ranges
 pub mod Scanning

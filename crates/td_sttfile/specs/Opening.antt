@@ -17,7 +17,12 @@ last_cut cuts = slice_get cuts (length cuts - 1)
 
 -- cuts, each behind those before it
 abbrev pub cut_items : ℕ → Items FileCut
-cut_items range = record { read = λ before. (cut_behind range (last_cut before)).read; spelled = cut_bytes; fits = λ before. (cut_behind range (last_cut before)).fits }
+cut_items range =
+    record {
+      read = λ before. (cut_behind range (last_cut before)).read;
+      spelled = cut_bytes;
+      fits = λ before. (cut_behind range (last_cut before)).fits;
+    }
 
 abbrev pub magic : Field ℕ
 magic = checked (number w32) (λ n. n == FILE_MAGIC)

@@ -6,15 +6,20 @@ use Rattle.td_codec.specs.Fields.{Read}
 
 -- What a function answered, seen as a value and the place behind it, is what reading gives of a file of this size from
 -- a place on, where the file tells its bytes. A reader that failed and want of memory say nothing.
-abbrev pub GivesFrom : {X Y : Type 0} → (X → Y × ℕ) → Option (List ℕ) → ℕ → ℕ → ℕ → Result X ScanFault → (List ℕ → Read Y) → Type 0
-GivesFrom view told file size at (Ok x) read = ((view x).1 ≤ size) × IfSome told (λ all. read (drop at all) ≡ Ok ((view x).0, drop (view x).1 all))
-GivesFrom view told file size at (Err (Damaged f place)) read = (f ≡ file) × ((place ≤ size) × IfSome told (λ all. read (drop at all) ≡ Err (size - place)))
+abbrev pub GivesFrom : {X Y : Type 0} → (X → Y × ℕ) → Option (List ℕ) → ℕ → ℕ → ℕ → Result X ScanFault
+    → (List ℕ → Read Y) → Type 0
+GivesFrom view told file size at (Ok x) read =
+    ((view x).1 ≤ size) × IfSome told (λ all. read (drop at all) ≡ Ok ((view x).0, drop (view x).1 all))
+GivesFrom view told file size at (Err (Damaged f place)) read =
+    (f ≡ file) × ((place ≤ size) × IfSome told (λ all. read (drop at all) ≡ Err (size - place)))
 GivesFrom view told file size at (Err ReadFault) read = Unit {0}
 GivesFrom view told file size at (Err NoMemory) read = Unit {0}
 
 -- the place behind so many fields of one width, or the place of the first that the end of the file cuts short
 abbrev pub place_behind : ℕ → ℕ → ℕ → ℕ → ℕ → Result ℕ ScanFault
-place_behind file size at width count = (if nat_lt (size - at) (width * count) then Err (Damaged file (size - (size - at) % width)) else Ok (at + width * count))
+place_behind file size at width count =
+    (if nat_lt (size - at) (width * count) then Err (Damaged file (size - (size - at) % width))
+    else Ok (at + width * count))
 
 -- A function of a part of a file answered what reading gives, where the file's bytes are damaged, or there was no
 -- memory.

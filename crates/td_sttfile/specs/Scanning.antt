@@ -38,10 +38,12 @@ abbrev pub IsNextRow : ℕ → Rows → Rows → Option (Key × Partial) → Typ
 IsNextRow table rows rest None = (rows ≡ []) × (rest ≡ [])
 IsNextRow table rows rest (Some p) = (p.0.table ≡ table) × (rows ≡ rest ++ (p.0.ts, p.1) ∷ [])
 
--- where a fault was found nothing waits before it, and it is the first
+-- the first fault from a spot on is at a place
 pub record IsFault (want : Want) (spot : Spot) (place : ℕ) (all : List ℕ) : Type 0 where
   pub fault : (left_at want spot all).fault ≡ Some place
 
+-- Why reading blocks stopped: damaged bytes are those of the first fault from the spot on, where the file tells its
+-- bytes.
 abbrev pub Faults : Want → Option (List ℕ) → ℕ → Spot → ScanFault → Type 0
 Faults want told file spot (Damaged f place) = (f ≡ file) × IfSome told (IsFault want spot place)
 Faults want told file spot ReadFault = Unit {0}
@@ -78,7 +80,8 @@ IsSound s = IfSome s.told (λ all. (scanned s.want all).fault ≡ None)
 
 -- the partials that are left of a scan, which gives all of them before it has begun
 abbrev pub left_of : Want → Option (List ℕ) → Bool → Rows → Spot → Option (List (Key × Partial))
-left_of want told begun rows spot = option_map (λ all. (if begun then left_with want rows spot all else (scanned want all).partials)) told
+left_of want told begun rows spot =
+    option_map (λ all. (if begun then left_with want rows spot all else (scanned want all).partials)) told
 
 -- what is known of an open file
 pub record IsOpen (want : Want) (cuts : List FileCut) (spot : Spot) (all : List ℕ) : Type 0 where
@@ -86,7 +89,8 @@ pub record IsOpen (want : Want) (cuts : List FileCut) (spot : Spot) (all : List 
   pub fault_is : (left_at want spot all).fault ≡ (scanned want all).fault
 
 -- what is true of a scan's fields
-pub record IsScan (want : Want) (told : Option (List ℕ)) (begun : Bool) (from : ℕ) (bytes : List ℕ) (cuts : List FileCut) (rows : Rows) (spot : Spot) : Type 0 where
+pub record IsScan (want : Want) (told : Option (List ℕ)) (begun : Bool) (from : ℕ) (bytes : List ℕ)
+    (cuts : List FileCut) (rows : Rows) (spot : Spot) : Type 0 where
   pub ahead : IsAhead told from bytes
   pub order : IfSome (left_of want told begun rows spot) InKeyOrder
   pub values : AllByRecursion (λ (row : ℕ × Partial). AreColumnCells row.1.cells) rows

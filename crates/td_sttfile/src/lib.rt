@@ -27,7 +27,7 @@ mod scans;
 mod writing;
 
 pub use format::{FILE_END, FILE_MAGIC, FileCut};
-pub use laws::what_was_written_is_scanned;
+pub use laws::{a_range_is_part_of_the_whole, what_was_written_is_scanned};
 pub use scans::{FileScan, scan};
 pub use td_fileio::{RowList, TableRows};
 pub use writing::write_file;

@@ -150,9 +150,18 @@ impl<'a, F: FileBytes> Model for BlockScan<'a, F> {
 
     ghost Value = { Scan };
 
-    ghost view = { λ s. record { want = want_of s.wanted; told = F.bytes s.file; file = F.file s.file; size = F.size s.file; count = F.count s.file; begun = s.begun; left = left_of (want_of s.wanted) (F.bytes s.file) s.begun s.rows s.spot } };
+    ghost view = { λ s. record {
+      want = want_of s.wanted;
+      told = F.bytes s.file;
+      file = F.file s.file;
+      size = F.size s.file;
+      count = F.count s.file;
+      begun = s.begun;
+      left = left_of (want_of s.wanted) (F.bytes s.file) s.begun s.rows s.spot;
+    } };
 
-    ghost invariant = { λ s. IsScan (want_of s.wanted) (F.bytes s.file) s.begun s.ahead.from s.ahead.bytes s.cuts s.rows s.spot };
+    ghost invariant = { λ s. IsScan (want_of s.wanted) (F.bytes s.file) s.begun s.ahead.from s.ahead.bytes
+        s.cuts s.rows s.spot };
 }
 
 impl<'a, F: FileBytes> BlockScan<'a, F> {
@@ -164,7 +173,8 @@ impl<'a, F: FileBytes> BlockScan<'a, F> {
         ensures size { result.size ≡ F.size file }
         ensures count { result.count ≡ F.count file }
         ensures begun { result.begun ≡ false }
-        ensures left { result.left ≡ option_map (λ all. (scanned (want_of wanted.entry) all).partials) (F.bytes file) }
+        ensures left { result.left
+            ≡ option_map (λ all. (scanned (want_of wanted.entry) all).partials) (F.bytes file) }
     {
         BlockScan {
             alloc,
@@ -266,8 +276,8 @@ impl<'a, F: FileBytes> BlockScan<'a, F> {
 }
 
 /// A scan of a file: the partials of a table in a range of timestamps, by key, with the file's cuts. Contracts see what
-/// it wants, its file, and what is left of it, where the file tells its bytes. The first call of `next` reads what stands
-/// before the blocks; blocks are read one by one as their rows are asked for.
+/// it wants, its file, and what is left of it, where the file tells its bytes. The first call of `next` reads what
+/// stands before the blocks; blocks are read one by one as their rows are asked for.
 pub struct FileScan<'a, R: Reader> {
     scan: BlockScan<'a, FileOf<R>>,
 }

@@ -1,0 +1,103 @@
+-- The state of a scan as contracts see it.
+use Rattle.std.specs.Prelude.{◌≡◌, ℕ, ◌+◌, ◌^◌, ◌<◌, Bool, true, false, if◌then◌else◌, List, [], ◌∷◌, ◌++◌, length, drop, reverse, Option, Some, None, IfSome}
+use Rattle.std.specs.Option.{option_map}
+use Rattle.std.specs.List.{AllByRecursion, flat_map}
+use Rattle.td_layer.specs.declared.values.Key.{Key}
+use Rattle.td_layer.specs.declared.parts.Partial.{Partial}
+use Rattle.td_layer.specs.declared.scans.ScanFault.{ScanFault}
+use Rattle.td_layer.specs.declared.scans.ScanFault.TheVariants.{ReadFault, Damaged, NoMemory}
+use Rattle.td_layer.specs.Columns.{AreColumnCells}
+use Rattle.td_layer.specs.Keys.{InKeyOrder}
+use Rattle.td_layer.specs.Scans.{Cut, Places}
+use Rattle.td_block.specs.Rows.{Rows}
+use Rattle.td_fileio.specs.Reading.{IsAhead}
+use Rattle.td_datafile.specs.declared.format.Entry.{Entry}
+use Rattle.td_datafile.specs.declared.blocks.Wanted.{Wanted}
+use Rattle.td_datafile.specs.declared.blocks.Spot.{Spot}
+use Rattle.td_datafile.specs.Index.{entry_bytes}
+use Rattle.td_datafile.specs.Scanned.{Want, Walked, keyed, walk, scanned, damaged_places}
+
+abbrev pub want_of : Wanted → Want
+want_of w = record { table = w.table; kinds = w.kinds.now; lo = w.lo; hi = w.hi }
+
+-- what the blocks of the entries from a spot on give
+abbrev pub left_at : Want → List Entry → Spot → List ℕ → Walked
+left_at want entries spot all = walk want spot.range all spot.last spot.place (drop spot.next entries)
+
+-- what rows that wait, the last first, and the blocks of the entries from a spot on give
+abbrev pub left_with : Want → List Entry → Rows → Spot → List ℕ → List (Key × Partial)
+left_with want entries rows spot all = keyed want.table (reverse rows) ++ (left_at want entries spot all).partials
+
+-- what one call made of the rows that wait and the spot: what is left is the same, and so is the first fault
+pub record Keeps (want : Want) (entries : List Entry) (rows rows' : Rows) (spot spot' : Spot) (all : List ℕ) :
+    Type 0 where
+  pub partials : left_with want entries rows' spot' all ≡ left_with want entries rows spot all
+  pub fault : (left_at want entries spot' all).fault ≡ (left_at want entries spot all).fault
+
+-- how many bytes the entries from a spot on take
+abbrev pub bytes_left : List Entry → Spot → ℕ
+bytes_left entries spot = length (flat_map entry_bytes (drop spot.next entries))
+
+-- the last of the rows of a table that wait was taken, as a partial by key
+abbrev pub IsNextRow : ℕ → Rows → Rows → Option (Key × Partial) → Type 0
+IsNextRow table rows rest None = (rows ≡ []) × (rest ≡ [])
+IsNextRow table rows rest (Some p) = (p.0.table ≡ table) × (rows ≡ rest ++ (p.0.ts, p.1) ∷ [])
+
+-- the first fault from a spot on is at a place
+pub record IsFault (want : Want) (entries : List Entry) (spot : Spot) (place : ℕ) (all : List ℕ) : Type 0 where
+  pub fault : (left_at want entries spot all).fault ≡ Some place
+
+-- Why reading blocks stopped: damaged bytes are those of the first fault from the spot on, where the file tells its
+-- bytes.
+abbrev pub Faults : Want → List Entry → Option (List ℕ) → ℕ → Spot → ScanFault → Type 0
+Faults want entries told file spot (Damaged f place) = (f ≡ file) × IfSome told (IsFault want entries spot place)
+Faults want entries told file spot ReadFault = Unit {0}
+Faults want entries told file spot NoMemory = Unit {0}
+
+-- A scan: what it wants, its file, whether it has begun, and the partials that are left where the file tells its bytes.
+pub record Scan : Type 0 where
+  pub want : Want
+  pub told : Option (List ℕ)
+  pub file : ℕ
+  pub size : ℕ
+  pub count : ℕ
+  pub begun : Bool
+  pub left : Option (List (Key × Partial))
+
+-- the places of damaged bytes of a scan's file, where it tells its bytes
+abbrev pub damaged_of : Scan → Option Places
+damaged_of s = option_map (damaged_places s.want s.file) s.told
+
+-- the cuts of a scan's file: it has none
+abbrev pub cuts_of : Scan → Option (List Cut)
+cuts_of s = Some []
+
+-- a scan of the same file for the same
+pub record IsSameScan (old new : Scan) : Type 0 where
+  pub want_is : new.want ≡ old.want
+  pub told_is : new.told ≡ old.told
+  pub file_is : new.file ≡ old.file
+  pub size_is : new.size ≡ old.size
+
+-- a scan that gave its last partial found no damage in what it read, where its file tells its bytes
+abbrev pub IsSound : Scan → Type 0
+IsSound s = IfSome s.told (λ all. (scanned s.want all).fault ≡ None)
+
+-- the partials that are left of a scan, which gives all of them before it has begun
+abbrev pub left_of : Want → Option (List ℕ) → Bool → List Entry → Rows → Spot → Option (List (Key × Partial))
+left_of want told begun entries rows spot =
+    option_map (λ all. (if begun then left_with want entries rows spot all else (scanned want all).partials)) told
+
+-- what is known of an open file
+pub record IsOpen (want : Want) (entries : List Entry) (spot : Spot) (all : List ℕ) : Type 0 where
+  pub fault_is : (left_at want entries spot all).fault ≡ (scanned want all).fault
+
+-- what is true of a scan's fields
+pub record IsScan (want : Want) (told : Option (List ℕ)) (begun : Bool) (from : ℕ) (bytes : List ℕ)
+    (entries : List Entry) (rows : Rows) (spot : Spot) : Type 0 where
+  pub ahead : IsAhead told from bytes
+  pub order : IfSome (left_of want told begun entries rows spot) InKeyOrder
+  pub values : AllByRecursion (λ (row : ℕ × Partial). AreColumnCells row.1.cells) rows
+  pub fresh : begun ≡ false → rows ≡ []
+  pub room : spot.place + bytes_left entries spot < 2 ^ 64
+  pub opened : begun ≡ true → IfSome told (IsOpen want entries spot)

@@ -1,0 +1,403 @@
+//! Scans of files.
+ghost use Rattle.std.specs.Prelude.{◌≡◌, ◌+◌, ◌<◌, ◌≤◌, ◌^◌, false, true, [], length, slice_get, reverse, IfOk, IfErr, IfSome, OnOk, OnErr, Some, None};
+ghost use Rattle.std.specs.Option.{option_map};
+ghost use Rattle.std.specs.List.{AllByRecursion};
+ghost use Rattle.td_layer.specs.Columns.{AreColumnCells};
+ghost use Rattle.td_layer.specs.Scans.{HasScanCause, GivesFirst, given};
+ghost use Rattle.td_layer.specs.Keys.{InKeyOrder};
+ghost use Rattle.td_fileio.specs.Places.{GivesPlaced};
+ghost use Rattle.td_fileio.specs.Reading.{IsAhead, IsSameFile};
+ghost use Rattle.td_datafile.specs.Scanned.{wanted_of, is_needed, wanted_block, scanned};
+ghost use Rattle.td_datafile.specs.Scanning.{want_of, bytes_left, Keeps, Faults, damaged_of, cuts_of, IsNextRow, IsSameScan, IsSound};
+
+use crate::blocks::{Spot, Wanted, entry_length, own_block};
+use crate::format::Entry;
+use crate::opening::opening_at;
+use std::alloc::Global;
+use std::marker::Model;
+use std::sync::ledger::Ledger;
+use td_cols::Kind;
+use td_fileio::{Ahead, FileBytes, FileOf};
+use td_layer::{Key, NoMem, Partial, RowScan, ScanFault, Seq, Steps};
+use td_outside::Reader;
+
+// ---- steps
+
+// Whether the block of an entry can have a row that is wanted.
+fn is_needed(wanted: &Wanted<'_>, entry: &Entry) -> bool
+    ensures { result ≡ is_needed (want_of wanted.now) entry.now }
+{
+    entry.table == wanted.table && wanted.lo <= entry.last && entry.first <= wanted.hi
+}
+
+// The rows from one timestamp to another, the last first.
+fn wanted_of(
+    alloc: Global,
+    lo: u64,
+    hi: u64,
+    rows: Seq<(u64, Partial)>,
+) -> Result<Seq<(u64, Partial)>, NoMem>
+    ensures { IfOk result (λ wanted. reverse wanted ≡ wanted_of lo hi rows) }
+{
+    let mut left = rows;
+    let mut wanted = Seq::new(alloc);
+    while let Some(row) = left.pop() {
+        if lo <= row.0 && row.0 <= hi {
+            wanted.add(row)?;
+        }
+    }
+    Ok(wanted)
+}
+
+// The rows that are wanted of the block of the entry at a spot, the last first. The block is read only where it is
+// needed.
+fn wanted_block<F: FileBytes>(
+    alloc: Global,
+    file: &mut F,
+    ahead: &mut Ahead,
+    wanted: &Wanted<'_>,
+    spot: Spot,
+    entry: &Entry,
+) -> Result<Seq<(u64, Partial)>, ScanFault>
+    requires place { spot.place + 38 < 2 ^ 64 }
+    requires ahead { IsAhead (F.bytes file.old) ahead.old.from ahead.old.bytes }
+    ensures read { GivesPlaced (λ rows. reverse rows) (F.bytes file.old) (F.file file.old) result
+        (wanted_block (want_of wanted.now) spot.range spot.last spot.place entry.now) }
+    ensures values { IfOk result (AllByRecursion (λ row. AreColumnCells row.1.cells)) }
+    ensures ahead { IsAhead (F.bytes file.new) ahead.new.from ahead.new.bytes }
+    ensures file { IsSameFile (F.bytes file.old) (F.bytes file.new) (F.file file.old) (F.file file.new)
+        (F.size file.old) (F.size file.new) }
+    ensures cause { HasScanCause None (F.count file.old) (F.count file.new) result }
+{
+    if !is_needed(wanted, entry) {
+        return Ok(Seq::new(alloc));
+    }
+    let found = own_block(alloc, file, ahead, wanted.kinds, spot, entry)?;
+    let rows = wanted_of(alloc, wanted.lo, wanted.hi, found)?;
+    Ok(rows)
+}
+
+// The entry with this number, counted from 0.
+fn entry_at(entries: &[Entry], number: usize) -> &Entry
+    requires { number < length entries.now }
+    ensures { slice_get entries.now number ≡ Some result.now }
+{
+    &entries[number]
+}
+
+// Reads the block of the next entry, where it is needed and no row waits.
+fn read_block<F: FileBytes>(
+    alloc: Global,
+    file: &mut F,
+    ahead: &mut Ahead,
+    wanted: &Wanted<'_>,
+    entries: &[Entry],
+    spot: &mut Spot,
+    rows: &mut Seq<(u64, Partial)>,
+) -> Result<(), ScanFault>
+    requires some { spot.old.next < length entries.now }
+    requires room { spot.old.place + bytes_left entries.now spot.old < 2 ^ 64 }
+    requires rows { rows.old ≡ [] }
+    requires ahead { IsAhead (F.bytes file.old) ahead.old.from ahead.old.bytes }
+    ensures keeps { IfSome (F.bytes file.old)
+        (Keeps (want_of wanted.now) entries.now rows.old rows.new spot.old spot.new) }
+    ensures values { AllByRecursion (λ row. AreColumnCells row.1.cells) rows.new }
+    ensures more { OnOk result (spot.old.next < spot.new.next) }
+    ensures room { spot.new.place + bytes_left entries.now spot.new < 2 ^ 64 }
+    ensures faults { IfErr result
+        (Faults (want_of wanted.now) entries.now (F.bytes file.old) (F.file file.old) spot.new) }
+    ensures ahead { IsAhead (F.bytes file.new) ahead.new.from ahead.new.bytes }
+    ensures file { IsSameFile (F.bytes file.old) (F.bytes file.new) (F.file file.old) (F.file file.new)
+        (F.size file.old) (F.size file.new) }
+    ensures cause { HasScanCause None (F.count file.old) (F.count file.new) result }
+{
+    let entry = entry_at(entries, spot.next);
+    let found = wanted_block(alloc, file, ahead, wanted, *spot, entry)?;
+    let long = entry_length(entry);
+    *rows = found;
+    spot.place += long;
+    spot.last = Key {
+        table: entry.table,
+        ts: entry.last,
+    };
+    spot.next += 1;
+    Ok(())
+}
+
+// Reads blocks until a row waits or no block is left.
+fn fill<F: FileBytes>(
+    alloc: Global,
+    file: &mut F,
+    ahead: &mut Ahead,
+    wanted: &Wanted<'_>,
+    entries: &[Entry],
+    spot: &mut Spot,
+    rows: &mut Seq<(u64, Partial)>,
+) -> Result<(), ScanFault>
+    requires room { spot.old.place + bytes_left entries.now spot.old < 2 ^ 64 }
+    requires values { AllByRecursion (λ row. AreColumnCells row.1.cells) rows.old }
+    requires ahead { IsAhead (F.bytes file.old) ahead.old.from ahead.old.bytes }
+    ensures keeps { IfSome (F.bytes file.old)
+        (Keeps (want_of wanted.now) entries.now rows.old rows.new spot.old spot.new) }
+    ensures values { AllByRecursion (λ row. AreColumnCells row.1.cells) rows.new }
+    ensures room { spot.new.place + bytes_left entries.now spot.new < 2 ^ 64 }
+    ensures ends { OnOk result (rows.new ≡ [] → length entries.now ≤ spot.new.next) }
+    ensures faults { IfErr result
+        (Faults (want_of wanted.now) entries.now (F.bytes file.old) (F.file file.old) spot.new) }
+    ensures ahead { IsAhead (F.bytes file.new) ahead.new.from ahead.new.bytes }
+    ensures file { IsSameFile (F.bytes file.old) (F.bytes file.new) (F.file file.old) (F.file file.new)
+        (F.size file.old) (F.size file.new) }
+    ensures cause { HasScanCause None (F.count file.old) (F.count file.new) result }
+{
+    while rows.is_empty() && spot.next < entries.len() {
+        read_block(alloc, file, ahead, wanted, entries, spot, rows)?;
+    }
+    Ok(())
+}
+
+// The first of the rows of a table that wait, of which the last comes first, as a partial by key.
+fn next_row(table: u32, rows: &mut Seq<(u64, Partial)>) -> Option<(Key, Partial)>
+    ensures { IsNextRow table rows.old rows.new result }
+{
+    match rows.pop() {
+        None => None,
+        Some((ts, partial)) => Some((Key { table, ts }, partial)),
+    }
+}
+
+// A scan over the bytes of a file.
+struct BlockScan<'a, F: FileBytes> {
+    alloc: Global,
+    file: F,
+    ahead: Ahead,
+    wanted: Wanted<'a>,
+    begun: bool,
+    entries: Seq<Entry>,
+    spot: Spot,
+    // The rows of a block that wait, the last first.
+    rows: Seq<(u64, Partial)>,
+}
+
+impl<'a, F: FileBytes> Model for BlockScan<'a, F> {
+    ghost use Rattle.td_datafile.specs.Scanning.{want_of, Scan, left_of, IsScan};
+
+    ghost Value = { Scan };
+
+    ghost view = { λ s. record {
+      want = want_of s.wanted;
+      told = F.bytes s.file;
+      file = F.file s.file;
+      size = F.size s.file;
+      count = F.count s.file;
+      begun = s.begun;
+      left = left_of (want_of s.wanted) (F.bytes s.file) s.begun s.entries s.rows s.spot;
+    } };
+
+    ghost invariant = { λ s. IsScan (want_of s.wanted) (F.bytes s.file) s.begun s.ahead.from s.ahead.bytes
+        s.entries s.rows s.spot };
+}
+
+impl<'a, F: FileBytes> BlockScan<'a, F> {
+    // A scan that has read nothing yet.
+    fn new(alloc: Global, file: F, wanted: Wanted<'a>) -> BlockScan<'a, F>
+        ensures want { result.want ≡ want_of wanted.entry }
+        ensures told { result.told ≡ F.bytes file }
+        ensures file { result.file ≡ F.file file }
+        ensures size { result.size ≡ F.size file }
+        ensures count { result.count ≡ F.count file }
+        ensures begun { result.begun ≡ false }
+        ensures left { result.left
+            ≡ option_map (λ all. (scanned (want_of wanted.entry) all).partials) (F.bytes file) }
+    {
+        BlockScan {
+            alloc,
+            file,
+            ahead: Ahead::new(alloc),
+            wanted,
+            begun: false,
+            entries: Seq::new(alloc),
+            spot: Spot {
+                range: 0,
+                next: 0,
+                place: 0,
+                last: Key { table: 0, ts: 0 },
+            },
+            rows: Seq::new(alloc),
+        }
+    }
+
+    // Reads the front, the end and the index, where that isn't done yet.
+    fn begin(&mut self) -> Result<(), ScanFault>
+        ensures in_order { IfSome self.old.left InKeyOrder }
+        ensures left { self.new.left ≡ self.old.left }
+        ensures same { IsSameScan self.old self.new }
+        ensures ok { OnOk result (self.new.begun ≡ true) }
+        ensures err { OnErr result (self.new.begun ≡ self.old.begun) }
+        ensures cause { HasScanCause (damaged_of self.old) self.old.count self.new.count result }
+    {
+        if self.begun {
+            return Ok(());
+        }
+        let opening = opening_at(self.alloc, &mut self.file, &mut self.ahead)?;
+        self.spot = Spot {
+            range: opening.range,
+            next: 0,
+            place: opening.index,
+            last: Key { table: 0, ts: 0 },
+        };
+        self.entries = opening.entries;
+        self.begun = true;
+        Ok(())
+    }
+
+    // The first of the partials that are left, of a scan that has begun.
+    fn take(&mut self) -> Result<Option<(Key, Partial)>, ScanFault>
+        requires { self.old.begun ≡ true }
+        ensures partials { GivesFirst self.old.left self.new.left result }
+        ensures values { IfOk result (λ o. IfSome o (λ p. AreColumnCells p.1.cells)) }
+        ensures sound { IfOk result (λ o. o ≡ None → IsSound self.old) }
+        ensures same { IsSameScan self.old self.new }
+        ensures begun { self.new.begun ≡ true }
+        ensures cause { HasScanCause (damaged_of self.old) self.old.count self.new.count result }
+    {
+        fill(
+            self.alloc,
+            &mut self.file,
+            &mut self.ahead,
+            &self.wanted,
+            self.entries.as_slice(),
+            &mut self.spot,
+            &mut self.rows,
+        )?;
+        let given = next_row(self.wanted.table, &mut self.rows);
+        Ok(given)
+    }
+
+    // How often reading failed.
+    fn faults(&self) -> u64
+        ensures { result ≡ self.now.count }
+    {
+        self.file.faults()
+    }
+
+    // The file.
+    fn into_file(self) -> F
+        ensures told { F.bytes result ≡ self.entry.told }
+        ensures file { F.file result ≡ self.entry.file }
+        ensures size { F.size result ≡ self.entry.size }
+        ensures count { F.count result ≡ self.entry.count }
+    {
+        let BlockScan {
+            alloc: _,
+            file,
+            ahead: _,
+            wanted: _,
+            begun: _,
+            entries: _,
+            spot: _,
+            rows: _,
+        } = self;
+        file
+    }
+}
+
+/// A scan of a file: the partials of a table in a range of timestamps, by key. Contracts see what it wants, its file,
+/// and what is left of it, where the file tells its bytes. The first call of `next` reads the front, the end and the
+/// index; then blocks of the table in the range are read one by one as their rows are asked for.
+pub struct FileScan<'a, R: Reader> {
+    scan: BlockScan<'a, FileOf<R>>,
+}
+
+impl<'a, R: Reader> Model for FileScan<'a, R> {
+    ghost use Rattle.td_datafile.specs.Scanning.{Scan};
+
+    ghost Value = { Scan };
+
+    ghost view = { λ s. s.scan };
+}
+
+/// A scan of a file for the partials of a table, by number, with columns of these kinds, from `lo` to `hi`, both among
+/// them. It reads nothing yet.
+pub fn scan<'a, R: Reader>(
+    alloc: Global,
+    file: R,
+    table: u32,
+    kinds: &'a [Kind],
+    lo: u64,
+    hi: u64,
+) -> FileScan<'a, R>
+    ensures want { result.want ≡ record { table = table; kinds = kinds.now; lo = lo; hi = hi } }
+    ensures told { result.told ≡ R.bytes file }
+    ensures file { result.file ≡ R.file file }
+    ensures size { result.size ≡ R.size file }
+    ensures count { result.count ≡ R.count file }
+    ensures begun { result.begun ≡ false }
+    ensures left { result.left ≡ option_map (λ all. (scanned result.want all).partials) (R.bytes file) }
+{
+    let wanted = Wanted {
+        table,
+        kinds,
+        lo,
+        hi,
+    };
+    FileScan {
+        scan: BlockScan::new(alloc, FileOf { file }, wanted),
+    }
+}
+
+impl<'a, R: Reader> FileScan<'a, R> {
+    /// The reader, which has read what the scan did, and has its faults.
+    pub fn into_reader(self) -> R
+        ensures told { R.bytes result ≡ self.entry.told }
+        ensures file { R.file result ≡ self.entry.file }
+        ensures size { R.size result ≡ self.entry.size }
+        ensures count { R.count result ≡ self.entry.count }
+    {
+        let FileScan { scan } = self;
+        let FileOf { file } = scan.into_file();
+        file
+    }
+}
+
+impl<'a, R: Reader> RowScan for FileScan<'a, R> {
+    ghost left = { λ s. s.left };
+
+    ghost cuts = { cuts_of };
+
+    ghost has_begun = { λ s. s.begun };
+
+    ghost damaged = { damaged_of };
+
+    ghost count = { λ s. s.count };
+
+    /// What [`RowScan::next`] says. An end comes only where what was read has no fault.
+    fn next<L: Ledger>(&mut self, steps: &mut Steps<L>) -> Result<Option<(Key, Partial)>, ScanFault>
+        ensures partials { GivesFirst self.old.left self.new.left result }
+        ensures in_order { IfSome self.old.left InKeyOrder }
+        ensures values { IfOk result (λ o. IfSome o (λ p. AreColumnCells p.1.cells)) }
+        ensures cuts { cuts_of self.new ≡ cuts_of self.old }
+        ensures begun { OnOk result (self.new.begun ≡ true) }
+        ensures stays_begun { self.old.begun ≡ true → self.new.begun ≡ true }
+        ensures damaged { damaged_of self.new ≡ damaged_of self.old }
+        ensures fault { HasScanCause (damaged_of self.old) self.old.count self.new.count result }
+        ensures steps { steps.new ≡ steps.old + given result }
+        ensures sound { IfOk result (λ o. o ≡ None → IsSound self.old) }
+        ensures same { IsSameScan self.old self.new }
+    {
+        self.scan.begin()?;
+        let Some(given) = self.scan.take()? else {
+            return Ok(None);
+        };
+        steps.tick();
+        Ok(Some(given))
+    }
+
+    /// No key does: a data file has no cuts.
+    fn cut_at(&self, _key: Key) -> bool {
+        false
+    }
+
+    fn faults(&self) -> u64 {
+        self.scan.faults()
+    }
+}
