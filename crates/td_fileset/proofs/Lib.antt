@@ -1,0 +1,10 @@
+pub mod Ordered
+pub mod Rows
+pub mod Ranged
+pub mod Laid
+pub mod Fronts
+pub mod Feds
+pub mod Causes
+pub mod Counting
+pub mod Merges
+pub mod Pushed

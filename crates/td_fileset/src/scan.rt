@@ -1,0 +1,56 @@
+//! Scans that stand for one layer each, and say what they read.
+ghost use Rattle.std.specs.Prelude.{◌≡◌, ◌+◌, true, None, IfOk, IfSome, OnOk};
+ghost use Rattle.td_layer.specs.Columns.{AreColumnCells};
+ghost use Rattle.td_layer.specs.Keys.{InKeyOrder};
+ghost use Rattle.td_layer.specs.Scans.{GivesFirst, HasScanCause, given};
+ghost use Rattle.td_fileset.specs.Sources.{Reads};
+
+use std::sync::ledger::Ledger;
+use td_layer::{Key, Partial, RowScan, ScanFault, Steps};
+use td_memtable::MemScan;
+use td_outside::Reader;
+use td_sttfile::FileScan;
+
+/// A scan of one layer that says what it reads, so that its reader is known once it ends.
+pub trait LayerScan: RowScan {
+    /// The file that it reads: its bytes where they are told, its number and its length.
+    ghost reads: { Self → Reads };
+
+    /// What [`RowScan::next`] says. It goes on reading the same file.
+    fn read<L: Ledger>(&mut self, steps: &mut Steps<L>) -> Result<Option<(Key, Partial)>, ScanFault>
+        ensures partials { GivesFirst (Self.left self.old) (Self.left self.new) result }
+        ensures in_order { IfSome (Self.left self.old) InKeyOrder }
+        ensures values { IfOk result (λ o. IfSome o (λ p. AreColumnCells p.1.cells)) }
+        ensures cuts { Self.cuts self.new ≡ Self.cuts self.old }
+        ensures begun { OnOk result (Self.has_begun self.new ≡ true) }
+        ensures stays_begun { Self.has_begun self.old ≡ true → Self.has_begun self.new ≡ true }
+        ensures damaged { Self.damaged self.new ≡ Self.damaged self.old }
+        ensures fault { HasScanCause (Self.damaged self.old) (Self.count self.old) (Self.count self.new) result }
+        ensures steps { steps.new ≡ steps.old + given result }
+        ensures reads { reads self.new ≡ reads self.old };
+}
+
+/// A scan of a memtable reads no file.
+impl<'a> LayerScan for MemScan<'a> {
+    ghost reads = { λ _. record { bytes = None; file = 0; size = 0 } };
+
+    fn read<L: Ledger>(
+        &mut self,
+        steps: &mut Steps<L>,
+    ) -> Result<Option<(Key, Partial)>, ScanFault> {
+        let given = self.next(steps)?;
+        Ok(given)
+    }
+}
+
+impl<'a, R: Reader> LayerScan for FileScan<'a, R> {
+    ghost reads = { λ s. record { bytes = s.told; file = s.file; size = s.size } };
+
+    fn read<L: Ledger>(
+        &mut self,
+        steps: &mut Steps<L>,
+    ) -> Result<Option<(Key, Partial)>, ScanFault> {
+        let given = self.next(steps)?;
+        Ok(given)
+    }
+}
