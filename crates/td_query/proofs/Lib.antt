@@ -1,0 +1,12 @@
+pub mod Goodness
+pub mod Grouping
+pub mod Intervals
+pub mod Keyed
+pub mod Listing
+pub mod Order
+pub mod Places
+pub mod Rising
+pub mod Starts
+pub mod TableByTable
+pub mod Wanted
+pub mod Worked

@@ -1,0 +1,10 @@
+pub mod Answered
+pub mod Arranged
+pub mod Gathered
+pub mod Groups
+pub mod Lines
+pub mod Parts
+pub mod Read
+pub mod Refusals
+pub mod Shown
+pub mod Windowed

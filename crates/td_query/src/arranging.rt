@@ -1,0 +1,173 @@
+//! The order of windows, and the part of them that is shown.
+ghost use Rattle.std.specs.Prelude.{◌≡◌, ◌++◌, drop, take, min, map, IfOk, OnOk};
+ghost use Rattle.std.specs.List.{flat_map};
+ghost use Rattle.td_verdict.specs.Answers.{count_from, limited, cut};
+ghost use Rattle.td_query.specs.Arranged.{arranged, by_start, cells_shown, answer_of_rows};
+ghost use Rattle.td_query.specs.Shown.{all_shown, windows_in};
+
+use crate::gathering::Group;
+use std::alloc::Global;
+use std::collections::BTreeMap;
+use td_layer::{Cell, Copied, NoMem, Seq};
+use td_model::{OrderBy, Plan, Query, WinRow};
+
+// A window's row that is lent.
+#[derive(Clone, Copy)]
+pub(crate) struct Shown<'a> {
+    row: &'a WinRow,
+}
+
+// A window's start, in milliseconds since 1970, and its place among all windows. They are ordered by start, then by
+// place.
+#[derive(Clone, Copy, PartialEq, Eq, PartialOrd, Ord)]
+pub(crate) struct StartKey {
+    start: i64,
+    place: usize,
+}
+
+fn start_of(shown: &Shown<'_>) -> i64
+    ensures { result ≡ shown.now.row.now.key.start }
+{
+    shown.row.key.start
+}
+
+// Adds windows at the end of others.
+fn add_windows<'a>(windows: &'a [WinRow], all: &mut Vec<Shown<'a>>) -> Result<(), NoMem>
+    ensures { OnOk result (all_shown all.new.items ≡ all_shown all.old.items ++ windows.now) }
+{
+    'windows: for row in windows {
+        all.push(Shown { row })?;
+    }
+    Ok(())
+}
+
+// The windows of groups, in the order of the groups.
+fn windows_of<'a>(alloc: Global, groups: &'a [Group]) -> Result<Vec<Shown<'a>>, NoMem>
+    ensures { IfOk result (λ all. all_shown all.items ≡ flat_map windows_in groups.now) }
+{
+    let mut all = Vec::new(alloc);
+    'groups: for group in groups {
+        add_windows(group.windows.as_slice(), &mut all)?;
+    }
+    Ok(all)
+}
+
+// Windows in the order of their keys.
+fn values_of<'a>(
+    alloc: Global,
+    sorted: BTreeMap<StartKey, Shown<'a>>,
+) -> Result<Vec<Shown<'a>>, NoMem>
+    ensures { IfOk result (λ all. all.items ≡ map (λ e. e.1) sorted.entry.entries) }
+{
+    let all: Vec<Shown<'a>> = sorted.into_values().collect(alloc)?;
+    Ok(all)
+}
+
+// Windows by their starts, and those of one start in their former order.
+fn by_start<'a>(alloc: Global, rows: &[Shown<'a>]) -> Result<Vec<Shown<'a>>, NoMem>
+    ensures { IfOk result (λ all. all_shown all.items ≡ by_start (all_shown rows.now)) }
+{
+    let mut sorted: BTreeMap<StartKey, Shown<'a>> = BTreeMap::new(alloc);
+    'rows: for place in 0..rows.len() {
+        let shown = rows[place];
+        let start = start_of(&shown);
+        sorted.insert(StartKey { start, place }, shown)?;
+    }
+    let all = values_of(alloc, sorted)?;
+    Ok(all)
+}
+
+// Windows in the order of an answer.
+fn in_order<'a>(
+    alloc: Global,
+    order: &OrderBy,
+    rows: Vec<Shown<'a>>,
+) -> Result<Vec<Shown<'a>>, NoMem>
+    ensures { IfOk result (λ all. all_shown all.items ≡ arranged order.now (all_shown rows.entry.items)) }
+{
+    match order {
+        OrderBy::Plain => Ok(rows),
+        OrderBy::Asc(_) => {
+            let all = by_start(alloc, rows.as_slice())?;
+            Ok(all)
+        }
+        OrderBy::Desc(_) => {
+            let mut all = by_start(alloc, rows.as_slice())?;
+            all.reverse();
+            Ok(all)
+        }
+    }
+}
+
+// A count of rows of OFFSET or LIMIT, and at most a bound. A negative number counts as 0.
+fn count_within(n: i128, bound: usize) -> usize
+    ensures { result ≡ min (count_from n) bound }
+{
+    if n < 0 {
+        0
+    } else if n < bound as i128 {
+        n as usize
+    } else {
+        bound
+    }
+}
+
+// The first rows, as many as LIMIT says where there is one.
+fn limited<'a, 'b>(limit: Option<i128>, rows: &'b [Shown<'a>]) -> &'b [Shown<'a>]
+    ensures { result.now ≡ limited limit rows.now }
+{
+    match limit {
+        None => rows,
+        Some(n) => &rows[..count_within(n, rows.len())],
+    }
+}
+
+// The rows without the first ones, as many as OFFSET says, and of these as many as LIMIT says.
+fn cut<'a, 'b>(query: &Query, rows: &'b [Shown<'a>]) -> &'b [Shown<'a>]
+    ensures { result.now ≡ cut query.now rows.now }
+{
+    let skip = count_within(query.skip, rows.len());
+    limited(query.limit, &rows[skip..])
+}
+
+// Of the rows that OFFSET and LIMIT leave, without the first `skip`, at most `count`.
+fn part<'a, 'b>(query: &Query, rows: &'b [Shown<'a>], skip: u64, count: u64) -> &'b [Shown<'a>]
+    ensures { result.now ≡ take count (drop skip (cut query.now rows.now)) }
+{
+    let rows = cut(query, rows);
+    let rest = &rows[(skip as usize).min(rows.len())..];
+    &rest[..(count as usize).min(rest.len())]
+}
+
+// The cells of windows.
+fn cells_of(alloc: Global, rows: &[Shown<'_>]) -> Result<Seq<Seq<Cell>>, NoMem>
+    ensures { IfOk result (λ all. all ≡ cells_shown (all_shown rows.now)) }
+{
+    let mut all = Seq::new(alloc);
+    'rows: for shown in rows {
+        let cells = shown.row.cells.copy()?;
+        all.add(cells)?;
+    }
+    Ok(all)
+}
+
+/// A part of the answer whose groups have these windows: the cells of each window, in the order of the groups or by
+/// ORDER BY, then OFFSET, then LIMIT; of these rows without the first `skip`, at most `count`. ORDER BY sorts by the
+/// windows' starts and keeps the former order of windows of one start; descending is that order reversed. A negative
+/// OFFSET or LIMIT counts as 0. `Err(NoMem)` is want of memory.
+pub fn arrange(
+    alloc: Global,
+    plan: &Plan,
+    groups: &Seq<Group>,
+    skip: u64,
+    count: u64,
+) -> Result<Seq<Seq<Cell>>, NoMem>
+    ensures { IfOk result (λ all. all ≡ take count
+        (drop skip (answer_of_rows plan.now.query (flat_map windows_in groups.now)))) }
+{
+    let rows = windows_of(alloc, groups.as_slice())?;
+    let rows = in_order(alloc, &plan.query.order, rows)?;
+    let shown = part(&plan.query, rows.as_slice(), skip, count);
+    let all = cells_of(alloc, shown)?;
+    Ok(all)
+}
