@@ -1,0 +1,1 @@
+"""What tools/import, tools/table and tools/plot are made of."""
