@@ -1,8 +1,8 @@
 //! What a gate counted, and whether it met its limit.
 use std::alloc::Global;
 use std::test::Fail;
+use td_gate::{Hold, HoldGate};
 use td_layer::{NoMem, Seq};
-use td_memdev::{Hold, HoldGate};
 use td_outside::GatePoint::{Pinned, Replied, Start};
 use td_outside::{Gate, GatePoint};
 

@@ -13,7 +13,8 @@ stable_entry pair = record { number = pair.0; log = Some (stable_log pair.1); fr
 
 -- an entry of a finished file of these bytes
 abbrev pub finished_entry : ℕ × List ℕ → FileEntry
-finished_entry pair = record { number = pair.0; state = Finished (record { bytes = pair.1; readers = 0; removed = false }) }
+finished_entry pair =
+    record { number = pair.0; state = Finished (record { bytes = pair.1; readers = 0; removed = false }) }
 
 -- a state with so many open readers, where it has a finished file
 abbrev pub with_readers : ℕ → FileState → FileState
@@ -38,4 +39,5 @@ marked (Finished file) = Finished (record file { removed = true })
 -- the numbers of the finished files
 abbrev pub numbers_of : List FileEntry → List ℕ
 numbers_of [] = []
-numbers_of (entry ∷ entries) = (if is_some (state_bytes entry.state) then entry.number ∷ numbers_of entries else numbers_of entries)
+numbers_of (entry ∷ entries) =
+    (if is_some (state_bytes entry.state) then entry.number ∷ numbers_of entries else numbers_of entries)

@@ -3,6 +3,5 @@ pub mod Handles
 pub mod Kept
 pub mod Memory
 pub mod Parts
-pub mod Rules
 pub mod Tables
 pub mod Track

@@ -5,7 +5,8 @@ use Rattle.td_outside.specs.Causes.{raised}
 use Rattle.td_outside.specs.declared.faults.IoFault.{IoFault}
 use Rattle.td_outside.specs.declared.faults.IoFault.TheVariants.{Failed, NoMemory}
 
--- an object's number, how many calls it had that can fail, which calls fail of which object, and how many faults it counts
+-- an object's number, how many calls it had that can fail, which calls fail of which object, and how many faults it
+-- counts
 pub record Track : Type 0 where
   pub object : ℕ
   pub calls : ℕ
@@ -18,7 +19,11 @@ is_next_listed track = list_any (λ pair. (pair.0 == track.object) && (pair.1 ==
 
 -- after a call: it is counted, and where the list named it a fault is counted too
 abbrev pub after_call : Track → Track
-after_call track = record track { calls = raised track.calls 1; faults = (if is_next_listed track then raised track.faults 1 else track.faults) }
+after_call track =
+    record track {
+      calls = raised track.calls 1;
+      faults = (if is_next_listed track then raised track.faults 1 else track.faults);
+    }
 
 -- after the faults of another were taken over
 abbrev pub with_faults : ℕ → Track → Track

@@ -8,7 +8,8 @@ use crate::table::Numbered;
 use std::alloc::Global;
 use td_layer::{NoMem, Seq};
 
-/// A finished file: its bytes, how many readers of it are open, and whether a removal failed, so that a crash may leave none.
+/// A finished file: its bytes, how many readers of it are open, and whether a removal failed, so that a crash may leave
+/// none.
 #[derive(Drop)]
 pub struct MemFile {
     pub bytes: Seq<u8>,

@@ -108,8 +108,8 @@ impl MemLog {
     }
 }
 
-/// The log of a number, if it is there, and what calls that failed leave in doubt: whether a crash may leave a new log, and
-/// whether it may leave none.
+/// The log of a number, if it is there, and what calls that failed leave in doubt: whether a crash may leave a new log,
+/// and whether it may leave none.
 #[derive(Drop)]
 pub struct LogEntry {
     pub number: u64,
@@ -142,7 +142,8 @@ impl LogEntry {
     /// Writes to the log, where it is there.
     pub fn write(&mut self, at: usize, bytes: &[u8]) -> Result<(), NoMem>
         requires { IfSome self.old.log (λ log. at ≤ length log.bytes) }
-        ensures ok { OnOk result (self.new ≡ record self.old { log = option_map (after_write at bytes.now) self.old.log }) }
+        ensures ok { OnOk result (self.new ≡ record self.old
+            { log = option_map (after_write at bytes.now) self.old.log }) }
         ensures err { OnErr result (self.new ≡ self.old) }
     {
         if let Some(log) = &mut self.log {
@@ -165,7 +166,10 @@ impl LogEntry {
     pub fn tear(&mut self, at: usize, count: usize)
         requires place { IfSome self.old.log (λ log. at ≤ length log.bytes) }
         requires fits { count < 2 ^ 63 }
-        ensures { self.new ≡ record self.old { log = option_map (λ log. after_torn_write at count log.bytes log) self.old.log } }
+        ensures { self.new ≡ record self.old {
+          log = option_map (λ log. after_torn_write at count log.bytes log)
+              self.old.log;
+        } }
     {
         if let Some(log) = &mut self.log {
             log.tear(at, count);

@@ -29,7 +29,13 @@ impl Model for MemPlace {
 
     ghost Value = { Holding };
 
-    ghost view = { λ p. record { store = p.store; calls = p.calls; fails = p.fails; faults = p.faults; taken = p.taken } };
+    ghost view = { λ p. record {
+      store = p.store;
+      calls = p.calls;
+      fails = p.fails;
+      faults = p.faults;
+      taken = p.taken;
+    } };
 }
 
 impl MemPlace {
@@ -89,7 +95,8 @@ impl Place for MemPlace {
     fn enter(&mut self, _alloc: Global, _name: &[u8]) -> Result<MemStore, IoFault>
         requires inside { not (is_some self.old.store) ≡ false }
         ensures out { not (is_some self.new.store) ≡ is_ok result }
-        ensures image { IfOk result (λ dir. Some (image_of dir) ≡ option_map at_rest (option_map image_of self.old.store)) }
+        ensures image { IfOk result (λ dir. Some (image_of dir)
+            ≡ option_map at_rest (option_map image_of self.old.store)) }
         ensures store { IfOk result (λ dir. dir.track.faults ≡ 0) }
         ensures refused { OnErr result (option_map image_of self.new.store ≡ option_map image_of self.old.store) }
         ensures taken { self.new.taken ≡ self.old.taken }

@@ -26,7 +26,14 @@ impl Model for MemSink {
 
     ghost Value = { Page };
 
-    ghost view = { λ s. record { written = s.bytes.items; room = s.room - vec_len s.bytes; most = s.most; calls = s.calls; fails = s.fails; faults = s.faults } };
+    ghost view = { λ s. record {
+      written = s.bytes.items;
+      room = s.room - vec_len s.bytes;
+      most = s.most;
+      calls = s.calls;
+      fails = s.fails;
+      faults = s.faults;
+    } };
 
     ghost invariant = { λ s. (vec_len s.bytes ≤ s.room) × ((s.room ≤ vec_capacity s.bytes) × (0 < s.most)) };
 }
@@ -36,7 +43,14 @@ impl MemSink {
     /// It takes all its memory here.
     pub fn new(alloc: Global, room: usize, most: usize, fails: Seq<u64>) -> Result<MemSink, NoMem>
         requires { 0 < most }
-        ensures { IfOk result (λ s. s ≡ record { written = []; room = room; most = most; calls = 0; fails = fails; faults = 0 }) }
+        ensures { IfOk result (λ s. s ≡ record {
+          written = [];
+          room = room;
+          most = most;
+          calls = 0;
+          fails = fails;
+          faults = 0;
+        }) }
     {
         let bytes = Vec::with_capacity(alloc, room)?;
         Ok(MemSink {

@@ -27,7 +27,14 @@ impl Model for MemSource {
 
     ghost Value = { Feed };
 
-    ghost view = { λ s. record { left = drop s.at s.bytes; most = s.most; given = s.given; calls = s.calls; fails = s.fails; faults = s.faults } };
+    ghost view = { λ s. record {
+      left = drop s.at s.bytes;
+      most = s.most;
+      given = s.given;
+      calls = s.calls;
+      fails = s.fails;
+      faults = s.faults;
+    } };
 
     ghost invariant = { λ s. (s.at ≤ length s.bytes) × (0 < s.most) };
 }

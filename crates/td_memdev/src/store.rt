@@ -39,15 +39,23 @@ impl Model for MemStore {
 
     ghost Value = { Kept };
 
-    ghost view = { λ s. record { head = s.head; heads = s.heads; logs = s.logs.items; files = s.files.items; made = s.made; track = s.calls } };
+    ghost view = { λ s. record {
+      head = s.head;
+      heads = s.heads;
+      logs = s.logs.items;
+      files = s.files.items;
+      made = s.made;
+      track = s.calls;
+    } };
 
-    ghost invariant = { λ s. IsTable (λ entry. entry.number) s.logs.items × IsTable (λ entry. entry.number) s.files.items };
+    ghost invariant = { λ s. IsTable (λ entry. entry.number) s.logs.items
+        × IsTable (λ entry. entry.number) s.files.items };
 }
 
 impl MemStore {
-    /// An empty store. `fails` lists the calls that fail, as pairs of an object and a call, both from 1 but for the store, which
-    /// is object 0: its readers and writers are numbered in the order in which they are made, and each object numbers those of
-    /// its own calls that can answer a failure.
+    /// An empty store. `fails` lists the calls that fail, as pairs of an object and a call, both from 1 but for the
+    /// store, which is object 0: its readers and writers are numbered in the order in which they are made, and each
+    /// object numbers those of its own calls that can answer a failure.
     pub fn new(alloc: Global, fails: Seq<(u64, u64)>) -> MemStore
         ensures image { image_of result ≡ parts_image None [] [] }
         ensures track { result.track ≡ record { object = 0; calls = 0; fails = fails; faults = 0 } }
@@ -74,7 +82,8 @@ impl MemStore {
         requires logs { IsTable (λ pair. pair.0) logs }
         requires files { IsTable (λ pair. pair.0) files }
         ensures image { IfOk result (λ store. image_of store ≡ parts_image head logs files) }
-        ensures track { IfOk result (λ store. store.track ≡ record { object = 0; calls = 0; fails = fails; faults = 0 }) }
+        ensures track { IfOk result (λ store. store.track
+            ≡ record { object = 0; calls = 0; fails = fails; faults = 0 }) }
         ensures made { IfOk result (λ store. store.made ≡ 0) }
     {
         let logs = entries_of_logs(alloc, logs.as_slice())?;
@@ -201,7 +210,8 @@ impl Store for MemStore {
         ensures no_memory { IsErrOf result io_fault.NoMemory → self.new ≡ self.old }
         ensures cause { HasFault self.old.track.faults self.new.track.faults result }
         ensures listed { FailsAsListed self.old.track self.new.track result }
-        ensures object { IfOk result (λ w. (w.track.object ≡ raised self.old.made 1) × ((w.track.fails ≡ self.old.track.fails) × (w.track.calls ≡ 0))) }
+        ensures object { IfOk result (λ w. (w.track.object ≡ raised self.old.made 1)
+            × ((w.track.fails ≡ self.old.track.fails) × (w.track.calls ≡ 0))) }
         ensures made { self.new.made ≡ (if is_ok result then raised self.old.made 1 else self.old.made) }
     {
         let Some(number) = free_from(&self.files, 0) else {
@@ -234,7 +244,8 @@ impl Store for MemStore {
         ensures ok { IfOk result (λ n. Finishes w.number n w.written (image_of self.old) (image_of self.new)) }
         ensures failed { OnErr result (GivesUp w.number (image_of self.old) (image_of self.new)) }
         ensures cause { TakesOver self.old.track.faults w.track.faults self.new.track.faults result }
-        ensures listed { (image_of self.old).making w.number ≡ true → IsAsListed (with_faults w.track.faults self.old.track) self.new.track (is_err result) }
+        ensures listed { (image_of self.old).making w.number ≡ true
+            → IsAsListed (with_faults w.track.faults self.old.track) self.new.track (is_err result) }
     {
         let MemWriter {
             number,
@@ -290,7 +301,8 @@ impl Store for MemStore {
         ensures no_memory { IsErrOf result io_fault.NoMemory → self.new ≡ self.old }
         ensures cause { HasFault self.old.track.faults self.new.track.faults result }
         ensures listed { FailsAsListed self.old.track self.new.track result }
-        ensures object { IfOk result (λ r. (r.track.object ≡ raised self.old.made 1) × ((r.track.fails ≡ self.old.track.fails) × (r.track.calls ≡ 0))) }
+        ensures object { IfOk result (λ r. (r.track.object ≡ raised self.old.made 1)
+            × ((r.track.fails ≡ self.old.track.fails) × (r.track.calls ≡ 0))) }
         ensures made { self.new.made ≡ (if is_ok result then raised self.old.made 1 else self.old.made) }
     {
         let place = self.finished_place(name);
@@ -389,7 +401,8 @@ impl Store for MemStore {
 
     fn log_create(&mut self, alloc: Global, log: u64) -> Result<(), IoFault>
         ensures ok { OnOk result (image_of self.new ≡ after_log_create log (image_of self.old)) }
-        ensures failed { IsErrOf result io_fault.Failed → image_of self.new ≡ after_failed_log_create log (image_of self.old) }
+        ensures failed { IsErrOf result io_fault.Failed
+            → image_of self.new ≡ after_failed_log_create log (image_of self.old) }
         ensures no_memory { IsErrOf result io_fault.NoMemory → self.new ≡ self.old }
         ensures cause { HasFault self.old.track.faults self.new.track.faults result }
         ensures listed { FailsAsListed self.old.track self.new.track result }
@@ -409,7 +422,8 @@ impl Store for MemStore {
     fn log_append(&mut self, _alloc: Global, log: u64, at: u64, bytes: &[u8]) -> Result<(), IoFault>
         requires within { HasLog log (λ l. at ≤ length l.bytes) (image_of self.old) }
         ensures ok { OnOk result (image_of self.new ≡ with_log log (after_write at bytes.now) (image_of self.old)) }
-        ensures failed { IsErrOf result io_fault.Failed → Tears log at (length bytes.now) (image_of self.old) (image_of self.new) }
+        ensures failed { IsErrOf result io_fault.Failed
+            → Tears log at (length bytes.now) (image_of self.old) (image_of self.new) }
         ensures no_memory { IsErrOf result io_fault.NoMemory → self.new ≡ self.old }
         ensures cause { HasFault self.old.track.faults self.new.track.faults result }
         ensures listed { FailsAsListed self.old.track self.new.track result }
@@ -481,7 +495,8 @@ impl Store for MemStore {
         ensures missing { (image_of self.old).logs log ≡ None → IsOk result }
         ensures failed { OnErr result (image_of self.new ≡ after_failed_log_drop log (image_of self.old)) }
         ensures cause { HasCause self.old.track.faults self.new.track.faults result }
-        ensures listed { is_some ((image_of self.old).logs log) ≡ true → IsAsListed self.old.track self.new.track (is_err result) }
+        ensures listed { is_some ((image_of self.old).logs log) ≡ true
+            → IsAsListed self.old.track self.new.track (is_err result) }
         ensures untouched { (image_of self.old).logs log ≡ None → self.new ≡ self.old }
     {
         let Some(place) = place_of(&self.logs, log) else {

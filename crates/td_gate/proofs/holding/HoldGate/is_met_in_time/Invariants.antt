@@ -1,5 +1,5 @@
 use Rattle.std.proofs.Common.{◌<◌}
-use Rattle.td_memdev.proofs.gate.HoldGate.is_met_in_time.Given as goal
+use Rattle.td_gate.proofs.holding.HoldGate.is_met_in_time.Given as goal
 
 -- a rule that asks for no times is met at the first look
 abbrev pub invariant-loop : goal.invariant-loop

@@ -1,5 +1,5 @@
 use Rattle.std.proofs.Common.{◌≡◌, map, take}
-use Rattle.td_memdev.proofs.gate.HoldGate.new.Given as goal
+use Rattle.td_gate.proofs.holding.HoldGate.new.Given as goal
 
 -- the rules so far are kept
 abbrev pub invariant-loop-hold : goal.invariant-loop-hold
