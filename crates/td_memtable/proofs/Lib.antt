@@ -4,3 +4,4 @@ pub mod Scans
 pub mod Joining
 pub mod Rising
 pub mod OneJoin
+pub mod Firsts

@@ -4,7 +4,7 @@
 //! its puts since. It counts the puts and cuts that it took, at most 65536. `share` gives a reader the same memtable at
 //! once; what is put afterwards copies only the nodes that it touches. `scan` gives the puts of a table in a range by
 //! key, and says of each key whether it lies in one of the table's cuts. `cuts` gives the ranges of timestamps of a
-//! table's cuts, joined.
+//! table's cuts, joined. `table_from` gives the next table that has a put or a cut.
 //!
 //! It promises that a put is laid over that of its key and changes no other, that a cut forgets the puts of its range
 //! and no others, that a cut whose first timestamp is beyond its last is counted alone, and that a call that finds no
@@ -18,6 +18,7 @@ mod cuts;
 mod laws;
 mod memtable;
 mod scan;
+mod tables;
 
 pub use laws::one_join;
 pub use memtable::Memtable;

@@ -75,10 +75,13 @@ impl Memtable {
         }
     }
 
-    /// How many puts and cuts it took, those on one key too. They are at most 65536.
+    /// How many puts and cuts it took, those on one key too. They are at most 65536, and it has no more puts and no
+    /// more cuts.
     pub fn held(&self) -> u32
         ensures count { result ≡ self.now.held }
         ensures most { result ≤ MEMTABLE_PARTS }
+        ensures puts { length self.now.puts ≤ result }
+        ensures cuts { length self.now.cuts ≤ result }
     {
         self.held
     }

@@ -1,5 +1,5 @@
 //! The tree.
-ghost use Rattle.std.specs.Prelude.{◌≡◌, ◌+◌, ◌*◌, ◌^◌, ◌<◌, ◌≤◌, [], ◌∷◌, ◌++◌, length, nat_le, true, IsTrue, IsFalse, IfOk, OnOk, OnErr, MatchOption};
+ghost use Rattle.std.specs.Prelude.{◌≡◌, ◌+◌, ◌*◌, ◌^◌, ◌<◌, ◌≤◌, [], ◌∷◌, ◌++◌, length, nat_le, nat_lt, true, IsTrue, IsFalse, IfOk, OnOk, OnErr, MatchOption};
 ghost use Rattle.std.specs.Option.{option_copied};
 ghost use Rattle.std.specs.Arc.{arc_value};
 ghost use Rattle.td_layer.specs.Keys.{InKeyOrder};
@@ -113,6 +113,13 @@ fn may_grow<T>(side: &Tree<T>, other: &Tree<T>) -> bool
     side.len() as u64 + 2 <= 3 * (other.len() as u64 + 1)
 }
 
+// Whether the right side is so much heavier than the left one that a turn to the left pays.
+fn leans_right<T>(left: &Tree<T>, right: &Tree<T>) -> bool
+    ensures { result ≡ nat_lt (7 * (length left.now + 1)) (4 * (length right.now + 2)) }
+{
+    7 * (left.len() as u64 + 1) < 4 * (right.len() as u64 + 2)
+}
+
 // Whether sides of so many pairs may stand as two on the left, one below the other, and one on the right.
 fn may_turn(l: u32, m: u32, r: u32) -> bool
     ensures { result ≡ true → Balanced l m × Balanced (l + m + 1) r }
@@ -155,15 +162,15 @@ fn lower<T>(
 }
 
 impl<T> Tree<T> {
-    // Where the right side may not grow, the root turns to the left, if no other tree has it and that side and all
-    // stays balanced so. The pairs stay as they are.
+    // Where the right side is much the heavier, the root turns to the left, if no other tree has it and that side and
+    // all stays balanced so. The pairs stay as they are. So the keys of puts that rise stand on few levels.
     fn turn_left(&mut self)
         ensures { self.new ≡ self.old }
     {
         let _len = self.len();
         if let Some(shared) = &mut self.link {
             if let Some(node) = Arc::get_mut(shared) {
-                if may_grow(&node.right, &node.left) {
+                if !leans_right(&node.left, &node.right) {
                     return;
                 }
                 if lower(
