@@ -6,3 +6,5 @@ pub mod Times
 pub mod Orders
 pub mod SamePicks
 pub mod Sound
+pub mod Parts
+pub mod Sole

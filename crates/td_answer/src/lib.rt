@@ -13,6 +13,7 @@
 
 mod answers;
 mod cells;
+mod firsts;
 mod picks;
 mod shown;
 

@@ -6,7 +6,7 @@ ghost use Rattle.td_answer.specs.Lines.{line_cells};
 ghost use Rattle.td_answer.specs.Picks.{key_of, keyed, put_held, listed, tables_of, table_found, plan_found};
 
 use crate::cells::{Line, all_hold};
-use crate::shown::is_desc;
+use crate::shown::in_order;
 use std::alloc::Global;
 use std::collections::BTreeMap;
 use td_layer::{Cell, Name, NoMem, Seq};
@@ -28,14 +28,14 @@ pub(crate) type Picked<'a> = BTreeMap<TimeKey, Line<'a>>;
 // A table that is read.
 #[derive(Clone, Copy)]
 pub(crate) struct Table<'a> {
-    number: u32,
-    name: &'a Name,
-    tags: &'a Seq<Cell>,
+    pub(crate) number: u32,
+    pub(crate) name: &'a Name,
+    pub(crate) tags: &'a Seq<Cell>,
 }
 
 // The table at a place of a plan's tables.
 #[tactic(auto, using(crate::proofs::Lists::get_listed))]
-fn table_at(plan: &Plan, at: usize) -> Option<Table<'_>>
+pub(crate) fn table_at(plan: &Plan, at: usize) -> Option<Table<'_>>
     ensures { option_map listed result ≡ slice_get (tables_of plan.now) at }
 {
     match (plan.tables.get(at), plan.names.get(at), plan.tags.get(at)) {
@@ -114,17 +114,14 @@ pub(crate) fn pick_all<'a, M: RowsByKey>(
     Ok(picked)
 }
 
-// Rows in the order of an answer.
-pub(crate) fn in_order<'a>(
+// Picked rows in the order of an answer.
+pub(crate) fn lines_of<'a>(
     alloc: Global,
     order: &OrderBy,
     picked: Picked<'a>,
 ) -> Result<Vec<Line<'a>>, NoMem>
     ensures { IfOk result (λ all. all.items ≡ ordered order.now (map (λ e. e.1) picked.entry.entries)) }
 {
-    let mut all: Vec<Line<'a>> = picked.into_values().collect(alloc)?;
-    if is_desc(order) {
-        all.reverse();
-    }
-    Ok(all)
+    let all: Vec<Line<'a>> = picked.into_values().collect(alloc)?;
+    Ok(in_order(order, all))
 }

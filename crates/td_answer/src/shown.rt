@@ -1,6 +1,6 @@
 //! What is shown of the rows that were picked.
 ghost use Rattle.std.specs.Prelude.{◌≡◌, drop, take, min, IfOk};
-ghost use Rattle.td_verdict.specs.Answers.{shown, is_desc, count_from, limited, cut};
+ghost use Rattle.td_verdict.specs.Answers.{shown, is_desc, ordered, count_from, limited, cut};
 ghost use Rattle.td_answer.specs.Lines.{line_cells, lines_shown};
 
 use crate::cells::{Line, cell_at};
@@ -14,8 +14,19 @@ pub(crate) fn is_desc(order: &OrderBy) -> bool
     matches!(order, OrderBy::Desc(_))
 }
 
+// Rows by timestamp in the order of an answer.
+pub(crate) fn in_order<'a>(order: &OrderBy, lines: Vec<Line<'a>>) -> Vec<Line<'a>>
+    ensures { result.items ≡ ordered order.now lines.entry.items }
+{
+    let mut lines = lines;
+    if is_desc(order) {
+        lines.reverse();
+    }
+    lines
+}
+
 // A count of rows of OFFSET or LIMIT, and at most a bound. A negative number counts as 0.
-fn count_within(n: i128, bound: usize) -> usize
+pub(crate) fn count_within(n: i128, bound: usize) -> usize
     ensures { result ≡ min (count_from n) bound }
 {
     if n < 0 {

@@ -115,6 +115,10 @@ impl RowTree {
 impl RowsByKey for RowTree {
     ghost rows = { λ t. t };
 
+    fn row_count(&self) -> u32 {
+        self.tree.len()
+    }
+
     fn range(&self, table: u32, lo: u64, hi: u64) -> RowsIn<'_> {
         let first = Key { table, ts: lo };
         let last = Key { table, ts: hi };
