@@ -141,13 +141,11 @@ fn said_cause(
 ) -> Result<Option<Cause>, NoMem>
     ensures { IfOk result (λ cause. cause ≡ said_cause columns.now places.now groups.now edge) }
 {
-    let mismatch = mismatch_of(first_in_groups(Fault::Mismatch, columns, places, groups))?;
-    if mismatch.is_some() {
-        return Ok(mismatch);
+    if let Some(cause) = mismatch_of(first_in_groups(Fault::Mismatch, columns, places, groups))? {
+        return Ok(Some(cause));
     }
-    let outside = outside_of(first_in_groups(Fault::Outside, columns, places, groups))?;
-    if outside.is_some() {
-        return Ok(outside);
+    if let Some(cause) = outside_of(first_in_groups(Fault::Outside, columns, places, groups))? {
+        return Ok(Some(cause));
     }
     Ok(rows_cause(columns, places, groups, edge))
 }

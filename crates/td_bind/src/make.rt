@@ -46,13 +46,11 @@ fn size_cause(
 ) -> Result<Option<Cause>, NoMem>
     ensures { IfOk result (λ cause. cause ≡ size_cause columns.now tags.now catalog.now.catalog) }
 {
-    let of_columns = width_cause(columns)?;
-    if of_columns.is_some() {
-        return Ok(of_columns);
+    if let Some(cause) = width_cause(columns)? {
+        return Ok(Some(cause));
     }
-    let of_tags = width_cause(tags)?;
-    if of_tags.is_some() {
-        return Ok(of_tags);
+    if let Some(cause) = width_cause(tags)? {
+        return Ok(Some(cause));
     }
     Ok(count_cause(columns, tags, catalog))
 }

@@ -65,8 +65,8 @@ fn plan_from(
     let tags = tags_of(alloc, catalog, tables.as_slice())?;
     let names = names_of(alloc, catalog, tables.as_slice())?;
     let target = catalog.find_target(&query.source);
-    let query = query.copy()?;
     let schema = schema.copy()?;
+    let query = query.copy()?;
     Ok(Plan {
         query,
         tables,

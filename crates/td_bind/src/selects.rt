@@ -195,9 +195,8 @@ pub(crate) fn body_cause(
     if has_unknown(schema, query) {
         return Ok(Some(Cause::UnknownColumn));
     }
-    let mismatch = mismatch_cause(alloc, schema, query.conds.as_slice())?;
-    if mismatch.is_some() {
-        return Ok(mismatch);
+    if let Some(cause) = mismatch_cause(alloc, schema, query.conds.as_slice())? {
+        return Ok(Some(cause));
     }
     if is_bad_selection(schema, query) {
         return Ok(Some(Cause::BadSelect));

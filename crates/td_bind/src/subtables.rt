@@ -19,13 +19,11 @@ use td_model::{Cause, Column, Lit, Many, What};
 fn tags_cause(tags: &[Column], said: &[Said], catalog: &Catalog) -> Result<Option<Cause>, NoMem>
     ensures { IfOk result (λ cause. cause ≡ tags_said tags.now said.now catalog.now.catalog) }
 {
-    let mismatch = mismatch_of(first_column(Fault::Mismatch, &[], tags, said))?;
-    if mismatch.is_some() {
-        return Ok(mismatch);
+    if let Some(cause) = mismatch_of(first_column(Fault::Mismatch, &[], tags, said))? {
+        return Ok(Some(cause));
     }
-    let outside = outside_of(first_column(Fault::Outside, &[], tags, said))?;
-    if outside.is_some() {
-        return Ok(outside);
+    if let Some(cause) = outside_of(first_column(Fault::Outside, &[], tags, said))? {
+        return Ok(Some(cause));
     }
     if is_full(catalog) {
         return Ok(Some(Cause::TooMany {

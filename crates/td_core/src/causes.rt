@@ -1,7 +1,7 @@
 //! Why a core was not opened.
 
 /// A file of a store: its head, a log by number, or a finished file by number.
-#[derive(Clone, Copy, Debug, PartialEq, Eq)]
+#[derive(Clone, Copy)]
 pub enum FileId {
     Head,
     Log(u64),
@@ -10,7 +10,7 @@ pub enum FileId {
 
 /// Why a core was not opened: the store failed; a file of it breaks its form first at a place, in bytes from 0; or
 /// there was no memory.
-#[derive(Clone, Copy, Debug, PartialEq, Eq)]
+#[derive(Clone, Copy)]
 pub enum OpenCause {
     StoreFault,
     NotThisStore { file: FileId, at: u64 },

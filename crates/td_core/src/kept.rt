@@ -10,7 +10,7 @@ use td_tables::Tables;
 
 /// The log that is written: its number, the version of its first item, the place of its closed gate, and whether it
 /// is there.
-#[derive(Clone, Copy, Debug)]
+#[derive(Clone, Copy)]
 pub(crate) struct ActiveLog {
     pub(crate) number: u64,
     pub(crate) first: u64,
@@ -87,11 +87,13 @@ pub fn close_core<S: Store, C: Clock>(core: Core<S, C>) -> S
         alloc: _,
         store,
         clock: _,
-        tables: _,
-        journal: _,
+        tables,
+        journal,
         base: _,
         floor: _,
         log: _,
     } = core;
+    drop(tables);
+    drop(journal);
     store
 }

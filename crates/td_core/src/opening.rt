@@ -130,7 +130,9 @@ fn entry_of(
     ensures refused { IfOk result (λ entry. IfNone entry (IsRefused text.now item.now.moment tables.now.state)) }
 {
     let stmt = statement(alloc, text)?;
-    judge_item(tables, item, &stmt)
+    let entry = judge_item(tables, item, &stmt);
+    drop(stmt);
+    entry
 }
 
 // Takes an entry in.
@@ -306,20 +308,14 @@ fn active_of(
     }
 }
 
-// The state that logs make, and the log that is written.
-#[derive(Drop)]
-pub(crate) struct Replayed {
-    pub(crate) tables: Tables,
-    pub(crate) log: ActiveLog,
-}
-
-// What the logs of a store make of the empty state. The second one may have items only where the first has.
-fn replay_logs(alloc: Global, logs: &LogBytes) -> Result<Replayed, OpenCause>
-    ensures ok { IfOk result (λ r. MakesState logs.now r.tables.state r.log) }
+// Makes of the empty state what the logs of a store make of it, and gives the log that is written. The second one may
+// have items only where the first has.
+fn replay_logs(alloc: Global, tables: &mut Tables, logs: &LogBytes) -> Result<ActiveLog, OpenCause>
+    requires { tables.old.state ≡ empty_state }
+    ensures ok { IfOk result (λ log. MakesState logs.now tables.new.state log) }
     ensures err { IfErr result (LogsRefuse logs.now) }
 {
-    let mut tables = Tables::new(alloc);
-    let first_gate = replay_log(alloc, &mut tables, FIRST_LOG, &logs.first)?;
+    let first_gate = replay_log(alloc, tables, FIRST_LOG, &logs.first)?;
     let older = tables.version();
     if older == 0 && has_open_gate(&logs.second) {
         return Err(OpenCause::NotThisStore {
@@ -327,9 +323,9 @@ fn replay_logs(alloc: Global, logs: &LogBytes) -> Result<Replayed, OpenCause>
             at: 0,
         });
     }
-    let second_gate = replay_log(alloc, &mut tables, FIRST_LOG + 1, &logs.second)?;
+    let second_gate = replay_log(alloc, tables, FIRST_LOG + 1, &logs.second)?;
     let log = active_of(logs, older, tables.version(), first_gate, second_gate);
-    Ok(Replayed { tables, log })
+    Ok(log)
 }
 
 // ---- settling
@@ -384,38 +380,32 @@ fn drop_logs<S: Store>(store: &mut S, drops: bool) -> Result<(), OpenCause>
     Ok(())
 }
 
-// What opening makes before the store and the clock are taken in.
-#[derive(Drop)]
-struct Opened {
-    tables: Tables,
-    log: ActiveLog,
-    journal: Journal,
-}
-
-// Reads a store, makes its state, and settles its logs. All memory is taken before the store is changed.
-fn open_store<S: Store>(alloc: Global, store: &mut S) -> Result<Opened, OpenCause>
-    ensures stands { IfOk result (λ o. IfSome (S.told store.old) (λ image. Stands image o.tables.state)) }
-    ensures kept { IfOk result (λ o. IsKept (S.told store.new) o.tables.state (log_place o.log) o.log.is_made
-        o.tables.state.moment o.journal.spare) }
-    ensures halt { IfOk result (λ o. o.tables.state.halt ≡ None) }
-    ensures journal { IfOk result (λ o. o.journal.items ≡ []) }
-    ensures image { IfOk result (λ o. Along (Settles (log_place o.log)) (S.told store.old) (S.told store.new)) }
+// Reads a store, makes its state of the empty one, and settles its logs; it gives the log that is written. All memory
+// is taken before the store is changed, the room for the line of a halt too.
+fn open_store<S: Store>(
+    alloc: Global,
+    store: &mut S,
+    tables: &mut Tables,
+    journal: &mut Journal,
+) -> Result<ActiveLog, OpenCause>
+    requires empty { tables.old.state ≡ empty_state }
+    ensures stands { IfOk result (λ _. IfSome (S.told store.old) (λ image. Stands image tables.new.state)) }
+    ensures kept { IfOk result (λ log. IsKept (S.told store.new) tables.new.state (log_place log) log.is_made
+        tables.new.state.moment journal.new.spare) }
+    ensures halt { IfOk result (λ _. tables.new.state.halt ≡ None) }
+    ensures journal { journal.new.items ≡ journal.old.items }
+    ensures image { IfOk result (λ log. Along (Settles (log_place log)) (S.told store.old) (S.told store.new)) }
     ensures tidy { Along Tidies (S.told store.old) (S.told store.new) }
     ensures strange { IfErr result (λ cause. IfSome (S.told store.old) (BreaksBy cause)) }
     ensures untouched { IfErr result (λ cause. cause ≢ causes.StoreFault → S.told store.new ≡ S.told store.old) }
     ensures count { CountIs result (S.count store.old) (S.count store.new) }
 {
     let logs = read_logs(alloc, store)?;
-    let Replayed { tables, log } = replay_logs(alloc, &logs)?;
-    let mut journal = Journal::new(alloc);
+    let log = replay_logs(alloc, tables, &logs)?;
     journal.make_room(1)?;
     sync_logs(store, logs.first.is_some(), logs.second.is_some())?;
     drop_logs(store, drops_second(&logs, log))?;
-    Ok(Opened {
-        tables,
-        log,
-        journal,
-    })
+    Ok(log)
 }
 
 /// The core of a store. It reads the head and the first two logs and no other file, makes the logs that are there
@@ -448,14 +438,10 @@ pub fn open_core<S: Store, C: Clock>(
     ensures clock_back { IfErr result (λ refused. refused.clock ≡ clock) }
 {
     let mut store = store;
-    match open_store(alloc, &mut store) {
-        Ok(
-            Opened {
-                tables,
-                log,
-                journal,
-            },
-        ) => {
+    let mut tables = Tables::new(alloc);
+    let mut journal = Journal::new(alloc);
+    match open_store(alloc, &mut store, &mut tables, &mut journal) {
+        Ok(log) => {
             let base = tables.version();
             let floor = tables.moment();
             Ok(Core {
@@ -469,10 +455,14 @@ pub fn open_core<S: Store, C: Clock>(
                 log,
             })
         }
-        Err(cause) => Err(OpenRefused {
-            store,
-            clock,
-            cause,
-        }),
+        Err(cause) => {
+            drop(tables);
+            drop(journal);
+            Err(OpenRefused {
+                store,
+                clock,
+                cause,
+            })
+        }
     }
 }

@@ -21,6 +21,7 @@ use td_layer::{Cell, Name, NoMem, Roomy, ScanFault, Seq};
 use td_model::{Cause, Plan, Query};
 use td_outside::{Clock, Store};
 use td_rows::RowTree;
+use td_tables::Tables;
 
 /// Room for the readers that a pin takes, a slot each. It is spent by [`Room::done`]. Contracts see the number of its
 /// slots; none of them is taken.
@@ -157,6 +158,38 @@ struct View {
     rows: RowTree,
 }
 
+// The header of a plan's answer, and the rows of the state.
+fn header_and_rows(tables: &Tables, plan: &Plan) -> Result<(Seq<Name>, RowTree), NoMem>
+    ensures header { (q : AQuery) → plan.now ≡ plan_of q tables.now.state.catalog
+        → IfOk result (λ given. given.0 ≡ header q tables.now.state.catalog) }
+    ensures rows { IfOk result (λ given. given.1 ≡ tables.now.state.rows) }
+{
+    let header = tables.header(plan)?;
+    match tables.share_rows() {
+        Ok(rows) => Ok((header, rows)),
+        Err(NoMem) => {
+            drop(header);
+            Err(NoMem)
+        }
+    }
+}
+
+// What a query with this plan keeps of the state.
+fn view_of(tables: &Tables, plan: Plan) -> Result<View, NoMem>
+    ensures plan { IfOk result (λ v. v.plan ≡ plan) }
+    ensures header { (q : AQuery) → plan ≡ plan_of q tables.now.state.catalog
+        → IfOk result (λ v. v.header ≡ header q tables.now.state.catalog) }
+    ensures rows { IfOk result (λ v. v.rows ≡ tables.now.state.rows) }
+{
+    match header_and_rows(tables, &plan) {
+        Ok((header, rows)) => Ok(View { plan, header, rows }),
+        Err(NoMem) => {
+            drop(plan);
+            Err(NoMem)
+        }
+    }
+}
+
 impl<S: Store, C: Clock> Core<S, C> {
     // What a row query sees of the state, or the cause for which it is refused there.
     fn view(&self, query: &Query) -> Result<Result<View, Cause>, NoMem>
@@ -173,9 +206,8 @@ impl<S: Store, C: Clock> Core<S, C> {
             Ok(plan) => plan,
             Err(cause) => return Ok(Err(cause)),
         };
-        let header = self.tables.header(&plan)?;
-        let rows = self.tables.share_rows()?;
-        Ok(Ok(View { plan, header, rows }))
+        let view = view_of(&self.tables, plan)?;
+        Ok(Ok(view))
     }
 
     /// Pins a row query: it is judged in the state as it is, and where it passes it sees that state from then on. The
@@ -224,12 +256,15 @@ impl<S: Store, C: Clock> Core<S, C> {
         let Pinned {
             alloc: _,
             prefix: _,
-            plan: _,
-            header: _,
-            rows: _,
+            plan,
+            header,
+            rows,
             given: _,
             room,
         } = pinned;
+        drop(plan);
+        drop(header);
+        drop(rows);
         room
     }
 }

@@ -29,7 +29,7 @@ use td_tables::{Prepared, Tables};
 use td_wal::{LogItem, WalFault};
 
 /// What became of a statement that was submitted.
-#[derive(Debug, Drop)]
+#[derive(Drop)]
 pub enum Submitted {
     /// It is the entry of this version; with its count of rows, and the retention edge behind it.
     Accepted { version: u64, rows: u32, edge: u32 },
@@ -98,6 +98,26 @@ struct Ready {
     rows: u32,
 }
 
+// Takes the memory that taking in an accepted entry needs. Nothing that is seen of the state changes.
+fn prepare(tables: &mut Tables, journal: &mut Journal, entry: Entry) -> Result<Prepared, NoMem>
+    requires { CanTake entry.what tables.old.state }
+    ensures state { tables.new.state ≡ tables.old.state }
+    ensures lines { journal.new.items ≡ journal.old.items }
+    ensures kept { journal.old.spare ≤ journal.new.spare }
+    ensures room { OnOk result (2 ≤ journal.new.spare) }
+    ensures entry { IfOk result (λ prepared. prepared.entry ≡ entry) }
+    ensures ready { IfOk result (λ prepared. IsReady prepared tables.new) }
+{
+    let prepared = tables.prepare(entry)?;
+    match journal.make_room(2) {
+        Ok(()) => Ok(prepared),
+        Err(NoMem) => {
+            drop(prepared);
+            Err(NoMem)
+        }
+    }
+}
+
 // Takes the memory that an accepted entry of a text needs. Nothing that is seen of the state changes.
 fn make_ready(
     alloc: Global,
@@ -119,21 +139,26 @@ fn make_ready(
     ensures rows { IfOk result (λ r. r.rows ≡ rows) }
 {
     let version = tables.version() + 1;
-    let item = item_of(
+    let prepared = prepare(tables, journal, entry)?;
+    let entry = prepared.entry();
+    match item_of(
         alloc,
         version,
         entry.session,
         entry.ordinal,
         entry.moment,
         text,
-    )?;
-    let prepared = tables.prepare(entry)?;
-    journal.make_room(2)?;
-    Ok(Ready {
-        item,
-        prepared,
-        rows,
-    })
+    ) {
+        Ok(item) => Ok(Ready {
+            item,
+            prepared,
+            rows,
+        }),
+        Err(NoMem) => {
+            drop(prepared);
+            Err(NoMem)
+        }
+    }
 }
 
 // Writes what is ready, and takes its entry in; or a halt, where the store fails.
@@ -167,9 +192,20 @@ fn carry_out<S: Store>(
         rows,
     } = ready;
     match write(alloc, store, log, &item) {
-        Ok(()) => Ok(accept(tables, journal, prepared, rows)),
-        Err(WalFault::StoreFault) => Ok(halt(tables, journal, moment)),
-        Err(WalFault::NoMemory) => Err(NoMem),
+        Ok(()) => {
+            drop(item);
+            Ok(accept(tables, journal, prepared, rows))
+        }
+        Err(WalFault::StoreFault) => {
+            drop(item);
+            drop(prepared);
+            Ok(halt(tables, journal, moment))
+        }
+        Err(WalFault::NoMemory) => {
+            drop(item);
+            drop(prepared);
+            Err(NoMem)
+        }
     }
 }
 
@@ -216,6 +252,7 @@ impl<S: Store, C: Clock> Core<S, C> {
             }
         };
         if !has_place(self.log.gate, text) {
+            drop(what);
             return Err(NoMem);
         }
         let entry = Entry {

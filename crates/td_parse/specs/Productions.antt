@@ -259,5 +259,11 @@ statement_text = a_statement ◁ perhaps (sign kinds.SEMICOLON refl)
 
 -- One token of lookahead decides.
 pub statement_good : good statement_text ≡ true
-unfolding statement_text a_statement query_or_command cursor_command maintenance_command plain_command step close_cursor fetch open_cursor drop_stream create stream options stream_option a_trigger query clauses cut_part order_part direction order_name window_part window state_window session interval lengths partition_part where_part cond_list further_clause clause a_test null_test between compares part_list part items select_items select_item selected named_item function_item count_item count_argument delete range_of insert chosen_columns groups further_group group names table table_body of_stable own_columns stable tags tag_list tag columns column_list column tag_kind later_tag_kind text_kind column_kind sizes whole_number width long_width compared lits a_lit word_lit truth
+unfolding statement_text a_statement query_or_command cursor_command maintenance_command plain_command step close_cursor
+    fetch open_cursor drop_stream create stream options stream_option a_trigger query clauses cut_part order_part
+    direction order_name window_part window state_window session interval lengths partition_part where_part cond_list
+    further_clause clause a_test null_test between compares part_list part items select_items select_item selected
+    named_item function_item count_item count_argument delete range_of insert chosen_columns groups further_group group
+    names table table_body of_stable own_columns stable tags tag_list tag columns column_list column tag_kind
+    later_tag_kind text_kind column_kind sizes whole_number width long_width compared lits a_lit word_lit truth
 statement_good = refl

@@ -182,8 +182,13 @@ fn statement_text(alloc: Global, tokens: &[Lexeme]) -> Result<(Stmt, &[Lexeme]),
     ensures { Gives (λ x. (x.0, x.1.now)) result (read (tt {0}) prod_statement_text tokens.now) }
 {
     let (made, rest) = statement_of(alloc, tokens)?;
-    let rest = past_semicolon(rest)?;
-    Ok((made, rest))
+    match past_semicolon(rest) {
+        Ok(rest) => Ok((made, rest)),
+        Err(fault) => {
+            drop(made);
+            Err(fault)
+        }
+    }
 }
 
 // A tree that nothing follows.
@@ -192,7 +197,10 @@ fn ended(made: Stmt, rest: &[Lexeme]) -> Result<Stmt, Fault>
 {
     match rest {
         [] => Ok(made),
-        [_, ..] => Err(Fault::At(rest.len())),
+        [_, ..] => {
+            drop(made);
+            Err(Fault::At(rest.len()))
+        }
     }
 }
 

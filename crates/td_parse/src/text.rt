@@ -175,7 +175,10 @@ fn or_wrong(cause: Option<Cause>, tree: Stmt) -> Stmt
     ensures { result ≡ or_wrong cause tree }
 {
     match cause {
-        Some(cause) => Stmt::Wrong(cause),
+        Some(cause) => {
+            drop(tree);
+            Stmt::Wrong(cause)
+        }
         None => tree,
     }
 }
@@ -206,7 +209,10 @@ fn of_front(alloc: Global, lexemes: &[Lexeme], places: &[u64], at: u64) -> Resul
     ensures { IfOk result (λ answer. OfFront lexemes.now places.now at answer) }
 {
     match tree_of(alloc, lexemes) {
-        Ok(_) => Ok(Stmt::Wrong(Cause::Syntax { at })),
+        Ok(tree) => {
+            drop(tree);
+            Ok(Stmt::Wrong(Cause::Syntax { at }))
+        }
         Err(Fault::At(left)) => Ok(Stmt::Wrong(cause_at(lexemes, places, left, at))),
         Err(Fault::NoMemory) => Err(NoMem),
     }

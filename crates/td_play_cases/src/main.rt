@@ -23,46 +23,93 @@ use td_cases::{CaseFault, Out};
 use td_layer::Seq;
 use td_memdev::MemStore;
 
+// What is held between two lines: the case whose lines are read, and the store that the case before it left.
+#[derive(Drop)]
+struct Held {
+    open: Option<Case>,
+    left: Option<MemStore>,
+}
+
 fn main(rt: HostRuntime) -> Result<(), CaseFault> {
     let alloc = rt.alloc();
     let input = BufReader::new(alloc, rt.reader())?;
     let mut output = BufWriter::new(alloc, io::writer(&rt))?;
-    let mut open = None;
-    let mut left = None;
-    for line in input.lines(alloc) {
-        let line = line?;
-        if let Some(head) = line.as_str().strip_prefix("==== ") {
-            let shown = case_shown(&rt, alloc, open.take(), &mut left)?;
-            output.write_all(shown.as_slice())?;
-            open = Some(Case::new(alloc, head)?);
-        } else if let Some(case) = &mut open {
-            case.add_line(alloc, line.as_str())?;
-        }
-    }
-    let shown = case_shown(&rt, alloc, open, &mut left)?;
-    output.write_all(shown.as_slice())?;
+    let mut held = Held {
+        open: None,
+        left: None,
+    };
+    let shown = show_cases(&rt, alloc, input, &mut output, &mut held);
+    drop(held);
+    shown?;
     output.flush()?;
     Ok(())
 }
 
-// What a case shows, and nothing where there is none. The store that it leaves is kept for the next one.
+// Shows each case of the input.
+fn show_cases<R: Threads + Wait + Sync, I: BufRead + Drop, W: Write>(
+    rt: &R,
+    alloc: Global,
+    input: I,
+    output: &mut W,
+    held: &mut Held,
+) -> Result<(), CaseFault> {
+    for line in input.lines(alloc) {
+        let line = line?;
+        read_line(rt, alloc, line.as_str(), output, held)?;
+    }
+    show_open(rt, alloc, output, held)
+}
+
+// Reads a line: the head of a case, before which the open case is shown; or a line of the open case, if there is one.
+fn read_line<R: Threads + Wait + Sync, W: Write>(
+    rt: &R,
+    alloc: Global,
+    line: &str,
+    output: &mut W,
+    held: &mut Held,
+) -> Result<(), CaseFault> {
+    if let Some(head) = line.strip_prefix("==== ") {
+        show_open(rt, alloc, output, held)?;
+        drop(held.open.replace(Case::new(alloc, head)?));
+    } else if let Some(case) = &mut held.open {
+        case.add_line(alloc, line)?;
+    }
+    Ok(())
+}
+
+// Shows the open case, if there is one.
+fn show_open<R: Threads + Wait + Sync, W: Write>(
+    rt: &R,
+    alloc: Global,
+    output: &mut W,
+    held: &mut Held,
+) -> Result<(), CaseFault> {
+    match held.open.take() {
+        None => Ok(()),
+        Some(case) => {
+            let shown = case_shown(rt, alloc, &case, &mut held.left);
+            drop(case);
+            output.write_all(shown?.as_slice())?;
+            Ok(())
+        }
+    }
+}
+
+// What a case shows. The store that it leaves is kept for the next one.
 fn case_shown<R: Threads + Wait + Sync>(
     rt: &R,
     alloc: Global,
-    case: Option<Case>,
+    case: &Case,
     left: &mut Option<MemStore>,
 ) -> Result<Seq<u8>, CaseFault> {
     let mut out = Out::new(alloc);
-    if let Some(case) = case {
-        out.push(b"==== ");
-        out.push(case.head.as_bytes());
-        out.push(b"\n");
-        if case.settings.lists_statuses {
-            statuses::push_statuses(&mut out, alloc)?;
-        } else {
-            let store = playing::push_play(&mut out, rt, alloc, case, left.take())?;
-            *left = Some(store);
-        }
+    out.push(b"==== ");
+    out.push(case.head.as_bytes());
+    out.push(b"\n");
+    if case.settings.lists_statuses {
+        statuses::push_statuses(&mut out, alloc)?;
+    } else {
+        playing::push_play(&mut out, rt, alloc, case, left)?;
     }
     Ok(out.text()?)
 }

@@ -14,41 +14,75 @@ use td_limits::LAST_TIMESTAMP;
 use td_memdev::{FreeGate, MemPlace, MemSink, MemSource, MemStore, Ticks};
 use td_top::{Status, play, vnode};
 
-/// Plays a case, adds the report and the line of its status, and gives the store as it was left. It is played on the
-/// store that is given, if the case wants that.
+/// Plays a case, and adds the report and the line of its status. It is played on the store that was left, if the case
+/// wants that, and leaves its own.
 pub(crate) fn push_play<R: Threads + Wait + Sync>(
     out: &mut Out,
     rt: &R,
     alloc: Global,
-    case: Case,
-    left: Option<MemStore>,
-) -> Result<MemStore, CaseFault> {
-    let script = Seq::of_bytes(alloc, case.bytes())?;
+    case: &Case,
+    left: &mut Option<MemStore>,
+) -> Result<(), CaseFault> {
+    let fails = one_call(alloc, case.settings.fail_place)?;
+    let store = store_of(alloc, &case.settings, left)?;
+    let mut place = MemPlace::new(store, fails);
+    let pushed = push_play_at(out, rt, alloc, case, &mut place);
+    drop(left.replace(place.into_store()));
+    pushed
+}
+
+// Plays a case at a place, and adds the report and the line of its status.
+fn push_play_at<R: Threads + Wait + Sync>(
+    out: &mut Out,
+    rt: &R,
+    alloc: Global,
+    case: &Case,
+    place: &mut MemPlace,
+) -> Result<(), CaseFault>
+    requires inside { is_some place.old.store ≡ true }
+    ensures inside { is_some place.new.store ≡ true }
+{
     let settings = &case.settings;
-    let store = store_of(alloc, settings, left)?;
-    let mut place = MemPlace::new(store, one_call(alloc, settings.fail_place)?);
-    let input = source(alloc, settings, script)?;
     let mut sink = MemSink::new(
         alloc,
         settings.room,
         settings.most_out.max(1),
         one_call(alloc, settings.fail_out)?,
     )?;
-    let status = play_on(rt, alloc, settings, input, &mut sink, &mut place)?;
+    let status = play_script(rt, alloc, case, &mut sink, place)?;
     push_report(out, sink.bytes());
-    push_status(out, alloc, status, sink.bytes().len())?;
-    Ok(place.into_store())
+    push_status(out, alloc, status, sink.bytes().len())
+}
+
+// Plays the script of a case on a sink, at a place.
+fn play_script<R: Threads + Wait + Sync>(
+    rt: &R,
+    alloc: Global,
+    case: &Case,
+    sink: &mut MemSink,
+    place: &mut MemPlace,
+) -> Result<Status, CaseFault>
+    requires inside { is_some place.old.store ≡ true }
+    ensures inside { is_some place.new.store ≡ true }
+{
+    let script = Seq::of_bytes(alloc, case.bytes())?;
+    let input = source(alloc, &case.settings, script)?;
+    let status = play_on(rt, alloc, &case.settings, input, sink, place)?;
+    Ok(status)
 }
 
 // The store on which a case is played: the one that the case before left, or a new one.
 fn store_of(
     alloc: Global,
     settings: &Settings,
-    left: Option<MemStore>,
+    left: &mut Option<MemStore>,
 ) -> Result<MemStore, CaseFault> {
-    match left {
+    match left.take() {
         Some(store) if settings.is_again => Ok(store),
-        _ => new_store(alloc, settings),
+        before => {
+            drop(before);
+            new_store(alloc, settings)
+        }
     }
 }
 

@@ -10,15 +10,23 @@ pub(crate) fn tokens_of(alloc: Global, text: &[u8]) -> Result<Seq<u8>, CaseFault
     let mut out = Out::new(alloc);
     match tokens(alloc, text) {
         Ok(found) => {
-            for spanned in found.as_slice() {
-                push_token(&mut out, spanned);
-            }
+            push_tokens(&mut out, found.as_slice());
+            drop(found);
         }
         Err(LexFault::BadToken(at)) => push_place(&mut out, b"bad ", at),
         Err(LexFault::TooWide(at)) => push_place(&mut out, b"wide ", at),
-        Err(LexFault::NoMemory) => return Err(CaseFault::NoMemory),
+        Err(LexFault::NoMemory) => {
+            drop(out);
+            return Err(CaseFault::NoMemory);
+        }
     }
     Ok(out.text()?)
+}
+
+fn push_tokens(out: &mut Out, found: &[Spanned]) {
+    for spanned in found {
+        push_token(out, spanned);
+    }
 }
 
 fn push_place(out: &mut Out, front: &[u8], at: u64) {

@@ -51,14 +51,23 @@ fn line_shown(alloc: Global, line: &str) -> Result<Seq<u8>, CaseFault> {
 // The answer of a case.
 fn answer(alloc: Global, kind: &str, text: &str) -> Result<Seq<u8>, CaseFault> {
     let bytes = unescaped(alloc, text)?;
+    if kind == "words" {
+        return scripts::command_of(alloc, bytes);
+    }
+    let found = answer_of(alloc, kind, text, bytes.as_slice());
+    drop(bytes);
+    found
+}
+
+// The answer of a case that isn't `words`, of a text and of the bytes for which it stands.
+fn answer_of(alloc: Global, kind: &str, text: &str, bytes: &[u8]) -> Result<Seq<u8>, CaseFault> {
     match kind {
-        "tokens" => lexing::tokens_of(alloc, bytes.as_slice()),
-        "time" => lexing::time_of(alloc, bytes.as_slice()),
+        "tokens" => lexing::tokens_of(alloc, bytes),
+        "time" => lexing::time_of(alloc, bytes),
         "number" => lexing::number_of(alloc, text),
-        "statement" => tree_of(alloc, bytes.as_slice(), Asked::Tree),
-        "copy" => tree_of(alloc, bytes.as_slice(), Asked::Copy),
-        "script" => scripts::lines_of(alloc, bytes.as_slice()),
-        "words" => scripts::command_of(alloc, bytes),
+        "statement" => tree_of(alloc, bytes, Asked::Tree),
+        "copy" => tree_of(alloc, bytes, Asked::Copy),
+        "script" => scripts::lines_of(alloc, bytes),
         "reply" => reports::reply_told(alloc, text),
         "cause" => reports::cause_told(alloc, text),
         "report" => reports::report_told(alloc, text),

@@ -13,20 +13,32 @@ pub(crate) fn reply_told(alloc: Global, text: &str) -> Result<Seq<u8>, CaseFault
     let word = parts.next().unwrap_or("");
     let first = number(parts.next())?;
     if word == "answer" {
-        let header = header_of(alloc, parts.next().unwrap_or(""))?;
-        let rows = rows_of(alloc, parts.next())?;
-        return told(
-            alloc,
-            Reply::Answer {
-                prefix: first,
-                header,
-                rows,
-            },
-        );
+        let answer = answer_of(alloc, first, parts.next().unwrap_or(""), parts.next())?;
+        return told(alloc, answer);
     }
     match reply_of(word, first, small(parts.next())?) {
         Some(reply) => told(alloc, reply),
         None => Err(CaseFault::Unread),
+    }
+}
+
+fn answer_of(
+    alloc: Global,
+    prefix: u64,
+    header: &str,
+    rows: Option<&str>,
+) -> Result<Reply, CaseFault> {
+    let header = header_of(alloc, header)?;
+    match rows_of(alloc, rows) {
+        Ok(rows) => Ok(Reply::Answer {
+            prefix,
+            header,
+            rows,
+        }),
+        Err(fault) => {
+            drop(header);
+            Err(fault)
+        }
     }
 }
 
@@ -62,31 +74,58 @@ pub(crate) fn cause_told(alloc: Global, text: &str) -> Result<Seq<u8>, CaseFault
         Some((word, of)) => (word, Some(of)),
         None => (text, None),
     };
-    let cause = cause_of(alloc, word, of)?.copy()?;
-    told(alloc, Reply::Refused { prefix: 9, cause })
+    let cause = cause_of(alloc, word, of)?;
+    let copy = cause.copy();
+    drop(cause);
+    told(
+        alloc,
+        Reply::Refused {
+            prefix: 9,
+            cause: copy?,
+        },
+    )
 }
 
 // The report of one reply.
 fn told(alloc: Global, reply: Reply) -> Result<Seq<u8>, CaseFault> {
-    let parts = Report {
-        base: 0,
-        replies: Seq::from_vec(alloc, vec![in alloc; (1, 2, reply)]?),
-        streams: Seq::new(alloc),
-        journal: Seq::new(alloc),
-    };
-    Ok(report(alloc, &parts)?)
+    let replies = Seq::from_vec(alloc, vec![in alloc; (1, 2, reply)]?);
+    written(
+        alloc,
+        Report {
+            base: 0,
+            replies,
+            streams: Seq::new(alloc),
+            journal: Seq::new(alloc),
+        },
+    )
+}
+
+// The report of parts.
+fn written(alloc: Global, parts: Report) -> Result<Seq<u8>, CaseFault> {
+    let text = report(alloc, &parts);
+    drop(parts);
+    Ok(text?)
 }
 
 /// `report BASE|PART|PART ..`: the report of parts, each of which is `stream NAME UPTO` or a line of the journal.
 pub(crate) fn report_told(alloc: Global, text: &str) -> Result<Seq<u8>, CaseFault> {
     let base = number(text.split('|').next())?;
-    let parts = Report {
-        base,
-        replies: Seq::new(alloc),
-        streams: streams_of(alloc, text)?,
-        journal: journal_of(alloc, text)?,
-    };
-    Ok(report(alloc, &parts)?)
+    let streams = streams_of(alloc, text)?;
+    match journal_of(alloc, text) {
+        Ok(journal) => written(
+            alloc,
+            Report {
+                base,
+                replies: Seq::new(alloc),
+                streams,
+                journal,
+            },
+        ),
+        Err(fault) => {
+            drop(streams);
+            Err(fault)
+        }
+    }
 }
 
 fn streams_of(alloc: Global, text: &str) -> Result<Seq<(Name, u64)>, CaseFault> {

@@ -15,17 +15,25 @@ pub(crate) fn lines_of(alloc: Global, bytes: &[u8]) -> Result<Seq<u8>, CaseFault
     let mut out = Out::new(alloc);
     match script(alloc, bytes) {
         Ok(lines) => {
-            for line in lines.as_slice() {
-                push_line(&mut out, line);
-            }
+            push_lines(&mut out, lines.as_slice());
+            drop(lines);
         }
         Err(ScriptFault::BadScript(number)) => {
             out.push(b"bad ");
             out.number(i128::from(number));
         }
-        Err(ScriptFault::NoMemory) => return Err(CaseFault::NoMemory),
+        Err(ScriptFault::NoMemory) => {
+            drop(out);
+            return Err(CaseFault::NoMemory);
+        }
     }
     Ok(out.text()?)
+}
+
+fn push_lines(out: &mut Out, lines: &[Line]) {
+    for line in lines {
+        push_line(out, line);
+    }
 }
 
 fn push_line(out: &mut Out, line: &Line) {
@@ -44,12 +52,36 @@ pub(crate) fn command_of(alloc: Global, bytes: Vec<u8>) -> Result<Seq<u8>, CaseF
     let Ok(line) = String::from_utf8(bytes) else {
         return Err(CaseFault::Unread);
     };
+    let words = words_of(alloc, line.as_str());
+    drop(line);
+    let words = words?;
+    let shown = command_shown(alloc, words.as_slice());
+    drop(words);
+    shown
+}
+
+fn words_of(alloc: Global, line: &str) -> Result<Vec<String>, CaseFault> {
     let mut words = Vec::new(alloc);
-    for word in line.as_str().split('|').skip(1) {
+    match push_words(&mut words, alloc, line) {
+        Ok(()) => Ok(words),
+        Err(fault) => {
+            drop(words);
+            Err(fault)
+        }
+    }
+}
+
+fn push_words(words: &mut Vec<String>, alloc: Global, line: &str) -> Result<(), CaseFault> {
+    for word in line.split('|').skip(1) {
         words.push(String::from_str(alloc, word)?)?;
     }
+    Ok(())
+}
+
+fn command_shown(alloc: Global, words: &[String]) -> Result<Seq<u8>, CaseFault> {
+    let command = read_command(alloc, words)?;
     let mut out = Out::new(alloc);
-    match read_command(alloc, words.as_slice())? {
+    match command {
         Some(Command::Play { dir }) => {
             out.push(b"play ");
             out.push(dir.as_bytes());

@@ -18,7 +18,9 @@ pub(crate) enum Asked {
 /// What is printed of the tree of a text.
 pub(crate) fn tree_of(alloc: Global, text: &[u8], what: Asked) -> Result<Seq<u8>, CaseFault> {
     let tree = statement(alloc, text)?;
-    shown(alloc, &tree, what)
+    let answer = shown(alloc, &tree, what);
+    drop(tree);
+    answer
 }
 
 fn shown(alloc: Global, tree: &Stmt, what: Asked) -> Result<Seq<u8>, CaseFault> {
@@ -46,6 +48,7 @@ fn query_copied(alloc: Global, query: &Query) -> Result<Seq<u8>, CaseFault> {
     let copy = query.copy()?;
     let mut out = Out::new(alloc);
     push_query(&mut out, &copy);
+    drop(copy);
     Ok(out.text()?)
 }
 
@@ -53,5 +56,6 @@ fn stream_copied(alloc: Global, def: &StreamDef) -> Result<Seq<u8>, CaseFault> {
     let copy = def.copy()?;
     let mut out = Out::new(alloc);
     push_stream(&mut out, &copy);
+    drop(copy);
     Ok(out.text()?)
 }

@@ -12,7 +12,7 @@ use td_outside::IoFault;
 use td_script::ScriptFault;
 
 /// How the program ends.
-#[derive(Clone, Copy, Debug, PartialEq, Eq)]
+#[derive(Clone, Copy)]
 pub enum Status {
     /// The report was written.
     Done,

@@ -194,5 +194,6 @@ pub(crate) fn line_turn<S: Store, C: Clock>(
         line.text.as_slice(),
         &stmt,
     );
+    drop(stmt);
     Ok(reply)
 }

@@ -44,11 +44,11 @@ pub drop_logs-requires-after_bounds : goal.drop_logs-requires-after_bounds
 drop_logs-requires-after_bounds g c = λ lifetimes bounds goes.
     let old = g.S.Store.told c.args.store.now in
     let logs = c.in_ok-logs.logs in
-    let made = c.in_ok-tables.field-0 in
+    let made = c.replay_logs.new.tables.state in
     let read : Becomes synced old (g.S.Store.told c.sync_logs.new.store) = subst
     (λ (x : Option Image). Becomes synced x (g.S.Store.told c.sync_logs.new.store)) c.in_ok-logs.ensures.told
     c.in_ok-sync_logs.ensures.ok in
-    told_empty logs made.tables.state made.log old (g.S.Store.told c.sync_logs.new.store) c.in_ok-tables.ensures.ok
+    told_empty logs made c.in_ok-log.log old (g.S.Store.told c.sync_logs.new.store) c.in_ok-log.ensures.ok
     (sym c.drops_second.ensures ∙ goes) c.in_ok-logs.ensures.logs read
 
 pub returns-in_err-drop_logs-clause-tidy : goal.returns-in_err-drop_logs-clause-tidy
@@ -81,9 +81,9 @@ returns-in_err-drop_logs-clause-count g c =
 
 pub returns-clause-stands : goal.returns-clause-stands
 returns-clause-stands g c =
-    let made = c.in_ok-tables.field-0 in
-    told_stand c.in_ok-logs.logs made.tables.state made.log (g.S.Store.told c.args.store.now)
-    c.in_ok-tables.ensures.ok c.in_ok-logs.ensures.logs
+    let made = c.replay_logs.new.tables.state in
+    told_stand c.in_ok-logs.logs made c.in_ok-log.log (g.S.Store.told c.args.store.now)
+    c.in_ok-log.ensures.ok c.in_ok-logs.ensures.logs
 
 pub returns-clause-kept : goal.returns-clause-kept
 returns-clause-kept g c =
@@ -91,12 +91,12 @@ returns-clause-kept g c =
     let mid = g.S.Store.told c.sync_logs.new.store in
     let new = g.S.Store.told c.drop_logs.new.store in
     let logs = c.in_ok-logs.logs in
-    let made = c.in_ok-tables.field-0 in
+    let made = c.replay_logs.new.tables.state in
     let read : Becomes synced old mid = subst (λ (x : Option Image). Becomes synced x mid) c.in_ok-logs.ensures.told
     c.in_ok-sync_logs.ensures.ok in
-    let gone : Becomes (dropped (drops_second logs made.log)) mid new = subst
+    let gone : Becomes (dropped (drops_second logs c.in_ok-log.log)) mid new = subst
     (λ (b : Bool). Becomes (dropped b) mid new) c.drops_second.ensures c.in_ok-drop_logs.ensures.ok in
-    opened_kept logs made.tables.state made.log old mid new c.make_room.new.self.spare c.in_ok-tables.ensures.ok
+    opened_kept logs made c.in_ok-log.log old mid new c.make_room.new.self.spare c.in_ok-log.ensures.ok
     c.in_ok-logs.ensures.logs read gone c.in_ok-make_room.ensures.ok
 
 pub returns-clause-tidy : goal.returns-clause-tidy
@@ -109,8 +109,8 @@ returns-clause-tidy g c =
 
 pub returns-clause-halt : goal.returns-clause-halt
 returns-clause-halt g c =
-    let made = c.in_ok-tables.field-0 in
-    logs_halt c.in_ok-logs.logs made.tables.state made.log c.in_ok-tables.ensures.ok
+    let made = c.replay_logs.new.tables.state in
+    logs_halt c.in_ok-logs.logs made c.in_ok-log.log c.in_ok-log.ensures.ok
 
 pub returns-clause-image : goal.returns-clause-image
 returns-clause-image g c =
@@ -118,10 +118,10 @@ returns-clause-image g c =
     let mid = g.S.Store.told c.sync_logs.new.store in
     let new = g.S.Store.told c.drop_logs.new.store in
     let logs = c.in_ok-logs.logs in
-    let made = c.in_ok-tables.field-0 in
+    let made = c.replay_logs.new.tables.state in
     let read : Becomes synced old mid = subst (λ (x : Option Image). Becomes synced x mid) c.in_ok-logs.ensures.told
     c.in_ok-sync_logs.ensures.ok in
-    let gone : Becomes (dropped (drops_second logs made.log)) mid new = subst
+    let gone : Becomes (dropped (drops_second logs c.in_ok-log.log)) mid new = subst
     (λ (b : Bool). Becomes (dropped b) mid new) c.drops_second.ensures c.in_ok-drop_logs.ensures.ok in
-    opened_settles logs made.tables.state made.log old mid new c.in_ok-tables.ensures.ok c.in_ok-logs.ensures.logs
+    opened_settles logs made c.in_ok-log.log old mid new c.in_ok-log.ensures.ok c.in_ok-logs.ensures.logs
     read gone

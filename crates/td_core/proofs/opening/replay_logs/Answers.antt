@@ -12,7 +12,7 @@ use Rattle.td_core.proofs.opening.replay_logs.Goals.{else-older-eq0-via-then-old
 pub returns-in_err-first_gate-clause-err : goal.returns-in_err-first_gate-clause-err
 returns-in_err-first_gate-clause-err c =
     let at_first : LogRefuses 1 c.args.logs.now.first empty_state c.in_err-first_gate.field-0.0 = subst
-    (λ (s : State). LogRefuses 1 c.args.logs.now.first s c.in_err-first_gate.field-0.0) c.new-tables.ensures
+    (λ (s : State). LogRefuses 1 c.args.logs.now.first s c.in_err-first_gate.field-0.0) c.requires
     c.in_err-first_gate.ensures.err in
     handed_on c.from_residual.result c.in_err-first_gate.field-0.0 (LogsRefuse c.args.logs.now)
     c.from_residual.ensures.1 (first_refuses c.args.logs.now c.in_err-first_gate.field-0.0 at_first)
@@ -21,7 +21,7 @@ pub returns-then-has_open_gate-clause-err : goal.returns-then-has_open_gate-clau
 returns-then-has_open_gate-clause-err c =
     let s = c.replay_log.new.tables.state in
     let made : MakesOf c.args.logs.now.first c.in_ok-first_gate.first_gate empty_state s = subst
-    (λ (b : State). MakesOf c.args.logs.now.first c.in_ok-first_gate.first_gate b s) c.new-tables.ensures
+    (λ (b : State). MakesOf c.args.logs.now.first c.in_ok-first_gate.first_gate b s) c.requires
     c.in_ok-first_gate.ensures.ok in
     open_refuses c.args.logs.now c.in_ok-first_gate.first_gate s made
     (sym c.version-older.ensures ∙ c.if-older-eq0.true) (c.has_open_gate.ensures.open c.if-has_open_gate.true)
@@ -30,7 +30,7 @@ pub replay_log-requires-2 : goal.replay_log-requires-2
 replay_log-requires-2 c =
     let s = c.replay_log.new.tables.state in
     let made : MakesOf c.args.logs.now.first c.in_ok-first_gate.first_gate empty_state s = subst
-    (λ (b : State). MakesOf c.args.logs.now.first c.in_ok-first_gate.first_gate b s) c.new-tables.ensures
+    (λ (b : State). MakesOf c.args.logs.now.first c.in_ok-first_gate.first_gate b s) c.requires
     c.in_ok-first_gate.ensures.ok in
     record {
       version = made_version c.args.logs.now.first c.in_ok-first_gate.first_gate empty_state s made (none_at_most
@@ -41,7 +41,7 @@ pub returns-in_err-second_gate-clause-err : goal.returns-in_err-second_gate-clau
 returns-in_err-second_gate-clause-err c =
     let s = c.replay_log.new.tables.state in
     let made : MakesOf c.args.logs.now.first c.in_ok-first_gate.first_gate empty_state s = subst
-    (λ (b : State). MakesOf c.args.logs.now.first c.in_ok-first_gate.first_gate b s) c.new-tables.ensures
+    (λ (b : State). MakesOf c.args.logs.now.first c.in_ok-first_gate.first_gate b s) c.requires
     c.in_ok-first_gate.ensures.ok in
     let shut : s.version ≡ 0 → HasOpenGateFirst c.args.logs.now.second → ⊥ =
     elim c.else-older-eq0.branch [
@@ -58,7 +58,7 @@ pub active_of-log-requires : goal.active_of-log-requires
 active_of-log-requires c =
     let s = c.replay_log.new.tables.state in
     let made : MakesOf c.args.logs.now.first c.in_ok-first_gate.first_gate empty_state s = subst
-    (λ (b : State). MakesOf c.args.logs.now.first c.in_ok-first_gate.first_gate b s) c.new-tables.ensures
+    (λ (b : State). MakesOf c.args.logs.now.first c.in_ok-first_gate.first_gate b s) c.requires
     c.in_ok-first_gate.ensures.ok in
     let limit : s.version ≤ LAST_VERSION = made_version c.args.logs.now.first c.in_ok-first_gate.first_gate
     empty_state s made (none_at_most LAST_VERSION) in

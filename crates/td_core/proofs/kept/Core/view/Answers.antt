@@ -6,9 +6,9 @@ use Rattle.td_core.proofs.kept.Core.view.Goals as goal
 pub returns-clause-plan : goal.returns-clause-plan
 returns-clause-plan g c =
     let own = subst (λ r. IfOk r (λ p. p ≡ plan_of c.args.query.now c.self.inside.tables.state.catalog)) c.in-Ok.is c.in_ok-plan.ensures.plan in
-    own ∙ ap (λ k. plan_of c.args.query.now k.state.catalog) c.self.view_is
+    c.in_ok-view.ensures.plan ∙ own ∙ ap (λ k. plan_of c.args.query.now k.state.catalog) c.self.view_is
 
 pub returns-clause-header : goal.returns-clause-header
 returns-clause-header g c =
     let own = subst (λ r. IfOk r (λ p. p ≡ plan_of c.args.query.now c.self.inside.tables.state.catalog)) c.in-Ok.is c.in_ok-plan.ensures.plan in
-    rw (← c.self.view_is) (c.in_ok-header.ensures c.args.query.now own)
+    rw (← c.self.view_is) (c.in_ok-view.ensures.header c.args.query.now own)
