@@ -233,10 +233,10 @@ whole_read want range last b s =
     let again : decoded b.kinds (bytes_of_block b) ≡ Ok found = ap (decoded b.kinds) (sym (append-nil (bytes_of_block b))) ∙ decoded_again b.kinds b.table b.rows [] s.holds s.numbers in
     ap (λ (o : Option ℕ). unless_before o (decoded b.kinds (bytes_of_block b))) (block_named b.kinds b.table b.rows s.holds.rows_are s.whole) ∙ ap (unless_before None) again
 
-same : (n : ℕ) → eqb n n ≡ true
+pub same : (n : ℕ) → eqb n n ≡ true
 same n = eq-eqb n n refl
 
-unless_differs : {A : Type 0} (t : Bool) (x y : A) → t ≡ true → cond (not t) x y ≡ y
+pub unless_differs : {A : Type 0} (t : Bool) (x y : A) → t ≡ true → cond (not t) x y ≡ y
 unless_differs t x y e = ap (λ (b : Bool). cond (not b) x y) e
 
 -- the entry of a block agrees with it
@@ -257,7 +257,7 @@ behind_head kinds range last place e all h =
     >>= λ (b : Block). rows_checked range e.table last (e.offset + 14) b.rows
     >>= λ (key : Key). agreeing place (length kinds) e b key.ts
 
-own_read : (want : Want) (range : ℕ) (last : Key) (place at : ℕ) (all : List ℕ) (b : FileBlock) (rest : List ℕ) → Stands want range last b → drop at all ≡ bytes_of_block b ++ rest → own_block b.kinds range last place (entry_of at b) all ≡ Ok b.rows
+pub own_read : (want : Want) (range : ℕ) (last : Key) (place at : ℕ) (all : List ℕ) (b : FileBlock) (rest : List ℕ) → Stands want range last b → drop at all ≡ bytes_of_block b ++ rest → own_block b.kinds range last place (entry_of at b) all ≡ Ok b.rows
 unfolding own_block
 own_read want range last place at all b rest s is =
     let e = entry_of at b in
@@ -359,7 +359,7 @@ all_wanted want bs = flat_map (wanted_of_block want) bs
 abbrev pub gives : List (Key × Partial) → Walked
 gives pairs = record { partials = pairs; fault = None }
 
-keyed_wanted : (want : Want) (b : FileBlock) (t : Bool) → keyed want.table (cond t (wanted_of want.lo want.hi b.rows) []) ≡ cond t (keyed want.table (wanted_of want.lo want.hi b.rows)) []
+pub keyed_wanted : (want : Want) (b : FileBlock) (t : Bool) → keyed want.table (cond t (wanted_of want.lo want.hi b.rows) []) ≡ cond t (keyed want.table (wanted_of want.lo want.hi b.rows)) []
 keyed_wanted want b true = refl
 keyed_wanted want b false = refl
 
@@ -368,7 +368,7 @@ pub next_block : (want : Want) (range : ℕ) (last : Key) (all : List ℕ) (at :
 next_block want range last all at b rest is = sym (drop-drop (length (bytes_of_block b)) at all) ∙ ap (drop (length (bytes_of_block b))) is ∙ drop_at (bytes_of_block b) rest (length (bytes_of_block b)) refl
 
 -- the last key of a block's entry
-entry_end : (want : Want) (range : ℕ) (last : Key) (at : ℕ) (b : FileBlock) → Stands want range last b → last_key (entry_of at b) ≡ end_key b.table last b.rows
+pub entry_end : (want : Want) (range : ℕ) (last : Key) (at : ℕ) (b : FileBlock) → Stands want range last b → last_key (entry_of at b) ≡ end_key b.table last b.rows
 entry_end want range last at b s = sym (end_is b.table last b.rows s.holds.some)
 
 pub walk_blocks : (want : Want) (range : ℕ) (bs : List FileBlock) (all : List ℕ) (at place : ℕ) (last : Key) (rest : List ℕ) → drop at all ≡ flat_map bytes_of_block bs ++ rest → Chain want range last bs

@@ -10,8 +10,11 @@ pub mod Named
 pub mod Order
 pub mod Rising
 pub mod Walks
+pub mod Folds
 pub mod States
 pub mod Fits
 pub mod Contents
 pub mod Openings
 pub mod Tables
+pub mod Folded
+pub mod Narrow

@@ -21,13 +21,13 @@ use Rattle.td_datafile.specs.Entries.{is_sum, is_bound, wide, summary_parts, sum
 
 -- ---- summaries
 
-abbrev greatest_field : ℕ → ℤ → Field ℤ
+abbrev pub greatest_field : ℕ → ℤ → Field ℤ
 greatest_field count least = checked wide (λ n. is_bound count n && int_le least n)
 
-abbrev least_field : ℕ → Field (ℤ × ℤ)
+abbrev pub least_field : ℕ → Field (ℤ × ℤ)
 least_field count = followed (checked wide (is_bound count)) (λ least. greatest_field count least)
 
-abbrev sum_field : ℕ → Field (ℤ × (ℤ × ℤ))
+abbrev pub sum_field : ℕ → Field (ℤ × (ℤ × ℤ))
 sum_field count = followed (checked wide (is_sum count)) (λ sum. least_field count)
 
 greatest_spells : (count : ℕ) (least : ℤ) → SpellsOnce (greatest_field count least)
@@ -125,3 +125,8 @@ index_within range index n bytes es rest are e =
     let t = items_take (entry_items range index) (entries_spell range index) n [] bytes (es, rest) are e in
     let long = ap length t.0.parts ∙ Rattle.std.proofs.lemmas.List.length-append (flat_map entry_bytes es) rest in
     omega (arith, long)
+
+-- how many entries were read
+pub entries_count : (range index n : ℕ) (bytes : List ℕ) (es : List Entry) (rest : List ℕ) → AreBytes bytes → items_read (entry_items range index) [] n bytes ≡ Ok (es, rest) → length es ≡ n
+unfolding entry_behind
+entries_count range index n bytes es rest are e = (items_take (entry_items range index) (entries_spell range index) n [] bytes (es, rest) are e).1.0

@@ -195,7 +195,7 @@ table_wanted want table kinds (suc n) (row ∷ rows) le =
 abbrev of_table : Want → TableRows → List (Key × Partial)
 of_table want t = wanted_in want t.table t.rows
 
-tables_wanted : (want : Want) (tables : List TableRows) → all_wanted want (all_blocks tables) ≡ partials_of want tables
+pub tables_wanted : (want : Want) (tables : List TableRows) → all_wanted want (all_blocks tables) ≡ partials_of want tables
 tables_wanted want [] = refl
 tables_wanted want (t ∷ ts) =
     ap (all_wanted want) (flat_map-cons table_blocks t ts)
@@ -206,7 +206,7 @@ tables_wanted want (t ∷ ts) =
 
 -- ---- the file
 
-chain_of : (want : Want) (range : ℕ) (tables : List TableRows) → CanWrite range tables → AllByRecursion (IsWantedTable want) tables → Chain want range before_all (all_blocks tables)
+pub chain_of : (want : Want) (range : ℕ) (tables : List TableRows) → CanWrite range tables → AllByRecursion (IsWantedTable want) tables → Chain want range before_all (all_blocks tables)
 chain_of want range tables can wanted = tables_chain want range tables before_all can.rows.rise can.rows.each can.merged wanted
 
 blocks_few : (want : Want) (range : ℕ) (last : Key) (bs : List FileBlock) → Chain want range last bs → length (flat_map bytes_of_block bs) ≤ 2 ^ 30 * length bs

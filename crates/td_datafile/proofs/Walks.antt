@@ -38,7 +38,8 @@ use Rattle.td_datafile.specs.Blocks.{is_behind, key_of, rows_checked, moved, own
 use Rattle.td_datafile.specs.Scanned.{Want, Walked, wanted_of, keyed, is_needed, nothing_left, wanted_block, then_walk, last_key, walk, before_all, behind_opening, scanned}
 use Rattle.td_datafile.specs.Scanning.{left_at, left_with, bytes_left, Keeps, IsFault, Faults}
 use Rattle.td_datafile.proofs.Order.{ComeBehind, none_come, come_before, rows_come, rows_table, behind_is_less}
-use Rattle.td_datafile.proofs.Rising.{AllFollow, Bounds, bounds_first, bounds_next, ends_behind, opening_follows}
+use Rattle.td_datafile.specs.Known.{AllFollow}
+use Rattle.td_datafile.proofs.Rising.{Bounds, bounds_first, bounds_next, ends_behind, opening_follows}
 
 -- ---- lists
 

@@ -8,3 +8,6 @@ pub mod Scanned
 pub mod Contents
 pub mod Scanning
 pub mod Reading
+pub mod Known
+pub mod Folding
+pub mod Ranges

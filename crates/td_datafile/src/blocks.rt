@@ -216,6 +216,7 @@ fn agreeing(
     requires { place + 38 < 2 ^ 64 }
     ensures exact { result ≡ agreeing place columns entry.now block last }
     ensures rows { IfOk result (λ rows. rows ≡ block.rows) }
+    ensures long { IfOk result (λ rows. length rows ≡ entry.now.rows) }
 {
     if block.used != u64::from(entry.size) {
         return Err(place + 8);
@@ -249,6 +250,7 @@ fn checked_rows(
     requires within { entry.now.offset + block.used < 2 ^ 64 }
     ensures exact { result ≡ checked_rows range last place columns entry.now block }
     ensures rows { IfOk result (λ rows. rows ≡ block.rows) }
+    ensures long { IfOk result (λ rows. length rows ≡ entry.now.rows) }
 {
     let key = rows_checked(
         range,
@@ -310,6 +312,7 @@ fn rows_in<F: FileBytes>(
     requires within { entry.now.offset + block.used < 2 ^ 64 }
     ensures read { Answered (F.file file.now) result (checked_rows range last place columns entry.now block) }
     ensures rows { IfOk result (λ rows. rows ≡ block.rows) }
+    ensures long { IfOk result (λ rows. length rows ≡ entry.now.rows) }
 {
     match checked_rows(range, last, place, columns, entry, block) {
         Ok(rows) => Ok(rows),
@@ -333,6 +336,7 @@ pub(crate) fn own_block<F: FileBytes>(
     ensures read { GivesPlaced (λ rows. rows) (F.bytes file.old) (F.file file.old) result
         (own_block kinds.now spot.range spot.last spot.place entry.now) }
     ensures values { IfOk result (AllByRecursion (λ row. AreColumnCells row.1.cells)) }
+    ensures long { IfOk result (λ rows. length rows ≡ entry.now.rows) }
     ensures ahead { IsAhead (F.bytes file.new) ahead.new.from ahead.new.bytes }
     ensures file { IsSameFile (F.bytes file.old) (F.bytes file.new) (F.file file.old) (F.file file.new)
         (F.size file.old) (F.size file.new) }
@@ -358,8 +362,8 @@ pub(crate) fn own_block<F: FileBytes>(
     Ok(rows)
 }
 
-// The fault of damaged bytes at a place of a file.
-fn damaged<F: FileBytes>(file: &F, at: u64) -> ScanFault
+/// The fault of damaged bytes at a place of a file.
+pub(crate) fn damaged<F: FileBytes>(file: &F, at: u64) -> ScanFault
     ensures { result ≡ Damaged (F.file file.now) at }
 {
     ScanFault::Damaged {

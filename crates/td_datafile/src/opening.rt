@@ -9,6 +9,7 @@ ghost use Rattle.td_fileio.specs.Places.{GivesPlaced, field_at};
 ghost use Rattle.td_fileio.specs.Reading.{IsAhead, IsPart, IsSameFile};
 ghost use Rattle.td_datafile.specs.Index.{entry_bytes};
 ghost use Rattle.td_datafile.specs.Entries.{behind};
+ghost use Rattle.td_datafile.specs.Known.{AreEntries};
 ghost use Rattle.td_datafile.specs.Written.{blocks_begin};
 ghost use Rattle.td_datafile.specs.Reading.{IsNoDamage};
 ghost use Rattle.td_datafile.specs.Opening.{front, tail, end_place, index_in, checked_end, opening_of, opening_at};
@@ -108,6 +109,7 @@ fn index_of(
     ensures read { Gives (λ x. (x.0, x.2.now)) result ((index_in range place blocks).read bytes.now) }
     ensures behind { IfOk result (λ x. x.1 ≡ behind x.0) }
     ensures within { IfOk result (λ x. length (flat_map entry_bytes x.0) ≤ length bytes.now) }
+    ensures known { IfOk result (λ x. AreEntries x.0) }
 {
     let (entries, behind, rest) = entries_of(alloc, range, place, blocks, bytes)?;
     if rest.is_empty() {
@@ -200,6 +202,7 @@ fn index_at<F: FileBytes>(
         (field_at (index_in range place blocks) long place) }
     ensures behind { IfOk result (λ x. x.1 ≡ behind x.0) }
     ensures room { IfOk result (λ x. place + length (flat_map entry_bytes x.0) < 2 ^ 64) }
+    ensures known { IfOk result (λ x. AreEntries x.0) }
     ensures ahead { IsAhead (F.bytes file.new) ahead.new.from ahead.new.bytes }
     ensures file { IsSameFile (F.bytes file.old) (F.bytes file.new) (F.file file.old) (F.file file.new)
         (F.size file.old) (F.size file.new) }
@@ -223,6 +226,7 @@ fn sized_opening<F: FileBytes>(
     requires ahead { IsAhead (F.bytes file.old) ahead.old.from ahead.old.bytes }
     ensures read { GivesPlaced (λ o. o) (F.bytes file.old) (F.file file.old) result (opening_of size) }
     ensures room { IfOk result (λ o. o.index + length (flat_map entry_bytes o.entries) < 2 ^ 64) }
+    ensures known { IfOk result (λ o. AreEntries o.entries) }
     ensures ahead { IsAhead (F.bytes file.new) ahead.new.from ahead.new.bytes }
     ensures file { IsSameFile (F.bytes file.old) (F.bytes file.new) (F.file file.old) (F.file file.new)
         (F.size file.old) (F.size file.new) }
@@ -256,6 +260,7 @@ pub(crate) fn opening_at<F: FileBytes>(
     requires ahead { IsAhead (F.bytes file.old) ahead.old.from ahead.old.bytes }
     ensures read { GivesPlaced (λ o. o) (F.bytes file.old) (F.file file.old) result opening_at }
     ensures room { IfOk result (λ o. o.index + length (flat_map entry_bytes o.entries) < 2 ^ 64) }
+    ensures known { IfOk result (λ o. AreEntries o.entries) }
     ensures ahead { IsAhead (F.bytes file.new) ahead.new.from ahead.new.bytes }
     ensures file { IsSameFile (F.bytes file.old) (F.bytes file.new) (F.file file.old) (F.file file.new)
         (F.size file.old) (F.size file.new) }

@@ -17,14 +17,14 @@ use std::alloc::Global;
 use std::marker::Model;
 use std::sync::ledger::Ledger;
 use td_cols::Kind;
-use td_fileio::{Ahead, FileBytes, FileOf};
+use td_fileio::{Ahead, FileBytes};
 use td_layer::{Key, NoMem, Partial, RowScan, ScanFault, Seq, Steps};
 use td_outside::Reader;
 
 // ---- steps
 
-// Whether the block of an entry can have a row that is wanted.
-fn is_needed(wanted: &Wanted<'_>, entry: &Entry) -> bool
+/// Whether the block of an entry can have a row that is wanted.
+pub(crate) fn is_needed(wanted: &Wanted<'_>, entry: &Entry) -> bool
     ensures { result ≡ is_needed (want_of wanted.now) entry.now }
 {
     entry.table == wanted.table && wanted.lo <= entry.last && entry.first <= wanted.hi
@@ -77,8 +77,8 @@ fn wanted_block<F: FileBytes>(
     Ok(rows)
 }
 
-// The entry with this number, counted from 0.
-fn entry_at(entries: &[Entry], number: usize) -> &Entry
+/// The entry with this number, counted from 0.
+pub(crate) fn entry_at(entries: &[Entry], number: usize) -> &Entry
     requires { number < length entries.now }
     ensures { slice_get entries.now number ≡ Some result.now }
 {
@@ -305,7 +305,7 @@ impl<'a, F: FileBytes> BlockScan<'a, F> {
 /// and what is left of it, where the file tells its bytes. The first call of `next` reads the front, the end and the
 /// index; then blocks of the table in the range are read one by one as their rows are asked for.
 pub struct FileScan<'a, R: Reader> {
-    scan: BlockScan<'a, FileOf<R>>,
+    scan: BlockScan<'a, R>,
 }
 
 impl<'a, R: Reader> Model for FileScan<'a, R> {
@@ -341,7 +341,7 @@ pub fn scan<'a, R: Reader>(
         hi,
     };
     FileScan {
-        scan: BlockScan::new(alloc, FileOf { file }, wanted),
+        scan: BlockScan::new(alloc, file, wanted),
     }
 }
 
@@ -354,8 +354,7 @@ impl<'a, R: Reader> FileScan<'a, R> {
         ensures count { R.count result ≡ self.entry.count }
     {
         let FileScan { scan } = self;
-        let FileOf { file } = scan.into_file();
-        file
+        scan.into_file()
     }
 }
 

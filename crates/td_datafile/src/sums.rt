@@ -10,8 +10,8 @@ ghost use Rattle.td_datafile.specs.Sums.{summary_of, numbers_of, no_numbers, wit
 use crate::format::Summary;
 use td_layer::{Partial, Value};
 
-// The cell of a row in a column: none beyond the row's end.
-fn cell_at(cells: &[Option<Value>], column: usize) -> Option<Value>
+/// The cell of a row in a column: none beyond the row's end.
+pub(crate) fn cell_at(cells: &[Option<Value>], column: usize) -> Option<Value>
     ensures { result ≡ slice_index_or cells.now column None }
 {
     match cells.get(column) {

@@ -1,7 +1,7 @@
 //! Lines and what they show.
 ghost use Rattle.std.specs.Prelude.{◌≡◌, ◌<◌};
 
-use crate::{blocks, scans};
+use crate::{blocks, folds, scans};
 use std::alloc::Global;
 use std::sync::ledger::{Blank, Ledger};
 use td_cases::{CaseFault, Out};
@@ -76,6 +76,8 @@ fn push_answer<L: Ledger>(
         "cut" => scans::push_cuts(out, alloc, text, steps),
         "data" => scans::push_data(out, alloc, text, steps),
         "datafail" => scans::push_failing_data(out, alloc, text, steps),
+        "fold" => folds::push_folded(out, alloc, text, steps),
+        "foldfail" => folds::push_failing(out, alloc, text, steps),
         _ => Err(CaseFault::Unread),
     }
 }

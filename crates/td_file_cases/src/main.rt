@@ -2,12 +2,14 @@
 //!
 //! A case is a kind, a blank and a text. A line that is empty or begins with `#` is printed as it stands. The answers
 //! beside which the program's are compared were worked out from the formats by hand. `blocks` has the kinds of blocks,
-//! `scans` those of stt files and data files; they say what a case of each looks like. It stands on `td_block`,
-//! `td_sttfile` and `td_datafile`, whose calls it asks, and on `td_cases`.
+//! `scans` and `folds` those of stt files and data files; they say what a case of each looks like. It stands on
+//! `td_block`, `td_sttfile` and `td_datafile`, whose calls it asks, on `td_aggr` for what a fold gives, and on
+//! `td_cases`.
 #![tactic(auto)]
 
 mod blocks;
 mod file;
+mod folds;
 mod hex;
 mod lines;
 mod scans;

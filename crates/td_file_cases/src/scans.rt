@@ -14,22 +14,23 @@ const MOST: u32 = 1 << 20;
 
 /// What a case asks of a file: the partials of a table, from one timestamp to another.
 #[derive(Drop)]
-struct Asked {
-    table: u32,
-    kinds: Vec<Kind>,
-    lo: u64,
-    hi: u64,
-    bytes: Vec<u8>,
+pub(crate) struct Asked {
+    pub table: u32,
+    pub kinds: Vec<Kind>,
+    pub lo: u64,
+    pub hi: u64,
+    pub bytes: Vec<u8>,
 }
 
-fn number_of(word: Option<&str>) -> Result<u64, CaseFault> {
+/// The number that a word is.
+pub(crate) fn number_of(word: Option<&str>) -> Result<u64, CaseFault> {
     word.unwrap_or("")
         .parse::<u64>()
         .map_err(|_| CaseFault::Unread)
 }
 
-// `TABLE KINDS LO HI BYTES`.
-fn asked_of(alloc: Global, text: &str) -> Result<Asked, CaseFault> {
+/// `TABLE KINDS LO HI BYTES`.
+pub(crate) fn asked_of(alloc: Global, text: &str) -> Result<Asked, CaseFault> {
     let mut words = text.splitn(5, ' ');
     let table = words.next().unwrap_or("").parse::<u32>();
     let table = table.map_err(|_| CaseFault::Unread)?;

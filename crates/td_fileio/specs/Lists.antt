@@ -31,7 +31,8 @@ pub record FileBlock : Type 0 where
 
 -- the blocks of rows of a table
 abbrev pub blocks_of_rows : ℕ → List Kind → Rows → List FileBlock
-blocks_of_rows table kinds rows = map (λ (some : Rows). record { table = table; kinds = kinds; rows = some }) (in_blocks rows)
+blocks_of_rows table kinds rows =
+    map (λ (some : Rows). record { table = table; kinds = kinds; rows = some }) (in_blocks rows)
 
 abbrev pub table_blocks : TableRows → List FileBlock
 table_blocks t = blocks_of_rows t.table t.kinds t.rows

@@ -17,11 +17,13 @@ placed at size long (Err left) = Err (at + (long - left))
 
 -- a field that stands at a place in a part of so many bytes
 abbrev pub field_at : {A : Type 0} → Field A → ℕ → ℕ → List ℕ → Placed A
-field_at field size at bytes = placed at size (length (take size (drop at bytes))) (field.read (take size (drop at bytes)))
+field_at field size at bytes =
+    placed at size (length (take size (drop at bytes))) (field.read (take size (drop at bytes)))
 
 -- What a function answered, seen by view, is what reading gives of a file by its number, where the file tells its
 -- bytes. A reader that failed and want of memory say nothing.
-abbrev pub GivesPlaced : {X Y : Type 0} → (X → Y) → Option (List ℕ) → ℕ → Result X ScanFault → (List ℕ → Result Y ℕ) → Type 0
+abbrev pub GivesPlaced : {X Y : Type 0} → (X → Y) → Option (List ℕ) → ℕ → Result X ScanFault
+    → (List ℕ → Result Y ℕ) → Type 0
 GivesPlaced view told file (Ok x) read = IfSome told (λ all. read all ≡ Ok (view x))
 GivesPlaced view told file (Err (Damaged f at)) read = (f ≡ file) × IfSome told (λ all. read all ≡ Err at)
 GivesPlaced view told file (Err ReadFault) read = Unit {0}

@@ -5,8 +5,8 @@ ghost use Rattle.td_outside.specs.Files.{ReadsWithin, ReadsAt};
 
 use td_outside::{Failed, Reader};
 
-/// A finished file that is read: what a [`Reader`] is, without its bound `Send`, so that the methods of a scan, whose
-/// trait has no such bound, can call functions over it.
+/// A finished file that is read: what each [`Reader`] is, without its bound `Send`, so that the methods of a scan,
+/// whose trait has no such bound, can call functions over it.
 pub trait FileBytes {
     /// The bytes of the file, where it tells them.
     ghost bytes: { Self → Option (List ℕ) };
@@ -44,33 +44,28 @@ pub trait FileBytes {
         ensures { result ≡ count self.now };
 }
 
-/// The file of a reader.
-pub struct FileOf<R: Reader> {
-    pub file: R,
-}
+impl<R: Reader> FileBytes for R {
+    ghost bytes = { λ s. R.bytes s };
 
-impl<R: Reader> FileBytes for FileOf<R> {
-    ghost bytes = { λ s. R.bytes s.file };
+    ghost file = { λ s. R.file s };
 
-    ghost file = { λ s. R.file s.file };
+    ghost size = { λ s. R.size s };
 
-    ghost size = { λ s. R.size s.file };
-
-    ghost count = { λ s. R.count s.file };
+    ghost count = { λ s. R.count s };
 
     fn name(&self) -> u64 {
-        self.file.name()
+        Reader::name(self)
     }
 
     fn len(&self) -> u64 {
-        self.file.len()
+        Reader::len(self)
     }
 
     fn read_at(&mut self, at: u64, buf: &mut [u8]) -> Result<usize, Failed> {
-        self.file.read_at(at, buf)
+        Reader::read_at(self, at, buf)
     }
 
     fn faults(&self) -> u64 {
-        self.file.faults()
+        Reader::faults(self)
     }
 }

@@ -4,8 +4,8 @@
 //! that were read [`Ahead`], 64 KiB at a time; a large part is read by itself. [`read_exact_at`] fills a buffer by as
 //! many calls of the reader as it takes. [`put`] adds bytes to those that wait for a writer, and hands them on once
 //! they are 64 KiB; [`flush`] hands on what still waits. A [`RowList`] is what a file takes: tables with their cuts
-//! and rows; which blocks its rows make is a definition. A scan reads through [`FileBytes`], which [`FileOf`] is for
-//! any reader.
+//! and rows; which blocks its rows make is a definition. A scan reads through [`FileBytes`], which each
+//! reader is.
 //!
 //! Promised: what was read are exactly the bytes at that place, where the file tells its bytes, and a reader's
 //! failure comes only where its count of faults rose. What a writer has and what waits are together exactly the bytes
@@ -22,7 +22,7 @@ mod places;
 mod reading;
 mod writing;
 
-pub use bytes::{FileBytes, FileOf};
+pub use bytes::FileBytes;
 pub use days::{day_end, day_start, is_in_day};
 pub use lists::{RowList, TableRows, count_blocks, next_block};
 pub use places::placed;

@@ -2,6 +2,7 @@
 ghost use Rattle.std.specs.Prelude.{◌≡◌, ◌+◌, ◌-◌, ◌<◌, ◌≤◌, ◌^◌, min, [], length, take, drop, replicate, IfOk, OnOk, OnErr, IsTrue, Some};
 ghost use Rattle.td_outside.specs.Causes.{HasCause};
 ghost use Rattle.td_layer.specs.Scans.{HasScanCause};
+ghost use Rattle.td_fileio.specs.declared.reading.TheConstants.{PIECE};
 ghost use Rattle.td_fileio.specs.Reading.{StandsAt, IsSameFile, IsPart, IsAhead};
 
 use crate::bytes::FileBytes;
@@ -116,7 +117,7 @@ fn read_ahead<R: FileBytes>(
     requires within { at ≤ size }
     requires ahead { IsAhead (R.bytes file.old) ahead.old.from ahead.old.bytes }
     ensures from { OnOk result (ahead.new.from ≡ at) }
-    ensures held { OnOk result (length ahead.new.bytes ≡ min 65536 (size - at)) }
+    ensures held { OnOk result (length ahead.new.bytes ≡ min PIECE (size - at)) }
     ensures ahead { IsAhead (R.bytes file.new) ahead.new.from ahead.new.bytes }
     ensures file { IsSameFile (R.bytes file.old) (R.bytes file.new) (R.file file.old) (R.file file.new)
         (R.size file.old) (R.size file.new) }
@@ -140,7 +141,7 @@ fn have_ahead<R: FileBytes>(
 ) -> Result<(), ScanFault>
     requires size { size ≡ R.size file.old }
     requires within { at + count ≤ size }
-    requires few { count < 65536 }
+    requires few { count < PIECE }
     requires ahead { IsAhead (R.bytes file.old) ahead.old.from ahead.old.bytes }
     ensures from { OnOk result (ahead.new.from ≤ at) }
     ensures held { OnOk result (at - ahead.new.from + count ≤ length ahead.new.bytes) }

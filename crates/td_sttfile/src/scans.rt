@@ -17,7 +17,7 @@ use std::alloc::Global;
 use std::marker::Model;
 use std::sync::ledger::Ledger;
 use td_cols::Kind;
-use td_fileio::{Ahead, FileBytes, FileOf};
+use td_fileio::{Ahead, FileBytes};
 use td_layer::{Key, NoMem, Partial, RowScan, ScanFault, Seq, Steps};
 use td_outside::Reader;
 
@@ -279,7 +279,7 @@ impl<'a, F: FileBytes> BlockScan<'a, F> {
 /// it wants, its file, and what is left of it, where the file tells its bytes. The first call of `next` reads what
 /// stands before the blocks; blocks are read one by one as their rows are asked for.
 pub struct FileScan<'a, R: Reader> {
-    scan: BlockScan<'a, FileOf<R>>,
+    scan: BlockScan<'a, R>,
 }
 
 impl<'a, R: Reader> Model for FileScan<'a, R> {
@@ -315,7 +315,7 @@ pub fn scan<'a, R: Reader>(
         hi,
     };
     FileScan {
-        scan: BlockScan::new(alloc, FileOf { file }, wanted),
+        scan: BlockScan::new(alloc, file, wanted),
     }
 }
 
@@ -328,8 +328,7 @@ impl<'a, R: Reader> FileScan<'a, R> {
         ensures count { R.count result ≡ self.entry.count }
     {
         let FileScan { scan } = self;
-        let FileOf { file } = scan.into_file();
-        file
+        scan.into_file()
     }
 }
 
