@@ -8,3 +8,16 @@ pub mod Causes
 pub mod Counting
 pub mod Merges
 pub mod Pushed
+pub mod Filters
+pub mod Scans
+pub mod Pieced
+pub mod Reading
+pub mod Seen
+pub mod Joined
+pub mod Damage
+pub mod Placed
+pub mod Nearest
+pub mod Spanned
+pub mod Stepped
+pub mod Answered
+pub mod Indexed

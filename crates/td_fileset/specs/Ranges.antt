@@ -1,8 +1,6 @@
 -- Rows of some keys alone.
 use Rattle.std.specs.Prelude.{◌≡◌, Bool, true, List, map, filter}
 use Rattle.td_layer.specs.declared.values.Key.{Key}
-use Rattle.td_layer.specs.declared.values.Row.{Row}
-use Rattle.td_layer.specs.declared.parts.Partial.{Partial}
 use Rattle.td_fileset.specs.Stack.{Layer, row_at, rows_of}
 
 -- pairs whose keys pass a test

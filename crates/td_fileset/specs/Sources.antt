@@ -13,8 +13,15 @@ use Rattle.td_fileset.specs.declared.source.Ahead.{Ahead}
 use Rattle.td_fileset.specs.declared.source.Ahead.TheVariants as ahead
 use Rattle.td_fileset.specs.Stack.{Layer}
 
--- What a scan reads: the bytes of a file where they are told, its number and its length.
+-- what a scan goes over
+pub data Kept : Type 0 where
+  InMemory : Kept
+  InSttFile : Kept
+  InDataFile : Kept
+
+-- What a scan reads: what it goes over, and the bytes of a file where they are told, its number and its length.
 pub record Reads : Type 0 where
+  pub kept : Kept
   pub bytes : Option (List ℕ)
   pub file : ℕ
   pub size : ℕ

@@ -3,17 +3,16 @@ ghost use Rattle.std.specs.Prelude.{◌≡◌, ◌+◌, true, None, IfOk, IfSome
 ghost use Rattle.td_layer.specs.Columns.{AreColumnCells};
 ghost use Rattle.td_layer.specs.Keys.{InKeyOrder};
 ghost use Rattle.td_layer.specs.Scans.{GivesFirst, HasScanCause, given};
-ghost use Rattle.td_fileset.specs.Sources.{Reads};
+ghost use Rattle.td_fileset.specs.Sources.{Reads, InMemory, InSttFile, InDataFile};
 
 use std::sync::ledger::Ledger;
 use td_layer::{Key, Partial, RowScan, ScanFault, Steps};
 use td_memtable::MemScan;
 use td_outside::Reader;
-use td_sttfile::FileScan;
 
 /// A scan of one layer that says what it reads, so that its reader is known once it ends.
 pub trait LayerScan: RowScan {
-    /// The file that it reads: its bytes where they are told, its number and its length.
+    /// What it goes over, and the file that it reads: its bytes where they are told, its number and its length.
     ghost reads: { Self → Reads };
 
     /// What [`RowScan::next`] says. It goes on reading the same file.
@@ -32,7 +31,7 @@ pub trait LayerScan: RowScan {
 
 /// A scan of a memtable reads no file.
 impl<'a> LayerScan for MemScan<'a> {
-    ghost reads = { λ _. record { bytes = None; file = 0; size = 0 } };
+    ghost reads = { λ _. record { kept = InMemory; bytes = None; file = 0; size = 0 } };
 
     fn read<L: Ledger>(
         &mut self,
@@ -43,8 +42,20 @@ impl<'a> LayerScan for MemScan<'a> {
     }
 }
 
-impl<'a, R: Reader> LayerScan for FileScan<'a, R> {
-    ghost reads = { λ s. record { bytes = s.told; file = s.file; size = s.size } };
+impl<'a, R: Reader> LayerScan for td_sttfile::FileScan<'a, R> {
+    ghost reads = { λ s. record { kept = InSttFile; bytes = s.told; file = s.file; size = s.size } };
+
+    fn read<L: Ledger>(
+        &mut self,
+        steps: &mut Steps<L>,
+    ) -> Result<Option<(Key, Partial)>, ScanFault> {
+        let given = self.next(steps)?;
+        Ok(given)
+    }
+}
+
+impl<'a, R: Reader> LayerScan for td_datafile::FileScan<'a, R> {
+    ghost reads = { λ s. record { kept = InDataFile; bytes = s.told; file = s.file; size = s.size } };
 
     fn read<L: Ledger>(
         &mut self,
