@@ -1,0 +1,9 @@
+pub mod Rows
+pub mod Listed
+pub mod Counts
+pub mod Cuts
+pub mod Writes
+pub mod Files
+pub mod Parts
+pub mod OneList
+pub mod Composed

@@ -1,0 +1,4 @@
+use Rattle.td_commit.proofs.tables.table_in.Given as goal
+
+abbrev pub ghosts-rows_in : goal.ghosts-rows_in
+ghosts-rows_in a = record { name = a.blank.name; parts = a.blank.parts }

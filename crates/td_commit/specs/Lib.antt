@@ -1,0 +1,4 @@
+pub mod Clipped
+pub mod Sound
+pub mod Files
+pub mod Given
