@@ -1,12 +1,16 @@
+pub mod Cutting
+pub mod ByGroup
 pub mod Goodness
 pub mod Grouping
 pub mod Intervals
 pub mod Keyed
 pub mod Listing
 pub mod Order
+pub mod Picking
 pub mod Places
 pub mod Rising
 pub mod Starts
 pub mod TableByTable
+pub mod Tallied
 pub mod Wanted
 pub mod Worked

@@ -10,6 +10,9 @@ use Rattle.td_query.specs.Read.{time_of, IsGood}
 abbrev pub without_windows : Grouped → Group
 without_windows g = record { part = g.part; rows = g.rows; windows = [] }
 
+abbrev pub grouped_of : Group → Grouped
+grouped_of g = record { part = g.part; rows = g.rows }
+
 -- the timestamps of a group's rows don't fall
 abbrev pub IsInOrder : Group → Type 0
 IsInOrder g = IsNonDecreasing (map time_of g.rows)

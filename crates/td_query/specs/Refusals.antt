@@ -138,3 +138,8 @@ is_bad_window of_table s q (window.Interval len offset slide) = is_bad_interval 
 is_bad_window of_table s q (window.Session column tol) = is_long tol || not (is_first s.columns column)
 is_bad_window of_table s q (window.State column) =
     is_bad_state s.columns column || (not of_table && not (list_any is_tbname q.parts))
+
+-- an interval's durations are out of their bounds
+abbrev pub has_bad_bounds : WindowDef → Bool
+has_bad_bounds (window.Interval len offset slide) = is_bad_interval len offset slide
+has_bad_bounds w = false

@@ -1,15 +1,15 @@
 //! The order of windows, and the part of them that is shown.
-ghost use Rattle.std.specs.Prelude.{◌≡◌, ◌++◌, drop, take, min, map, IfOk, OnOk};
+ghost use Rattle.std.specs.Prelude.{◌≡◌, ◌++◌, drop, take, map, IfOk, OnOk};
 ghost use Rattle.std.specs.List.{flat_map};
-ghost use Rattle.td_verdict.specs.Answers.{count_from, limited, cut};
 ghost use Rattle.td_query.specs.Arranged.{arranged, by_start, cells_shown, answer_of_rows};
 ghost use Rattle.td_query.specs.Shown.{all_shown, windows_in};
 
 use crate::gathering::Group;
+use crate::shown::part;
 use std::alloc::Global;
 use std::collections::BTreeMap;
 use td_layer::{Cell, Copied, NoMem, Seq};
-use td_model::{OrderBy, Plan, Query, WinRow};
+use td_model::{OrderBy, Plan, WinRow};
 
 // A window's row that is lent.
 #[derive(Clone, Copy)]
@@ -97,46 +97,6 @@ fn in_order<'a>(
             Ok(all)
         }
     }
-}
-
-// A count of rows of OFFSET or LIMIT, and at most a bound. A negative number counts as 0.
-fn count_within(n: i128, bound: usize) -> usize
-    ensures { result ≡ min (count_from n) bound }
-{
-    if n < 0 {
-        0
-    } else if n < bound as i128 {
-        n as usize
-    } else {
-        bound
-    }
-}
-
-// The first rows, as many as LIMIT says where there is one.
-fn limited<'a, 'b>(limit: Option<i128>, rows: &'b [Shown<'a>]) -> &'b [Shown<'a>]
-    ensures { result.now ≡ limited limit rows.now }
-{
-    match limit {
-        None => rows,
-        Some(n) => &rows[..count_within(n, rows.len())],
-    }
-}
-
-// The rows without the first ones, as many as OFFSET says, and of these as many as LIMIT says.
-fn cut<'a, 'b>(query: &Query, rows: &'b [Shown<'a>]) -> &'b [Shown<'a>]
-    ensures { result.now ≡ cut query.now rows.now }
-{
-    let skip = count_within(query.skip, rows.len());
-    limited(query.limit, &rows[skip..])
-}
-
-// Of the rows that OFFSET and LIMIT leave, without the first `skip`, at most `count`.
-fn part<'a, 'b>(query: &Query, rows: &'b [Shown<'a>], skip: u64, count: u64) -> &'b [Shown<'a>]
-    ensures { result.now ≡ take count (drop skip (cut query.now rows.now)) }
-{
-    let rows = cut(query, rows);
-    let rest = &rows[(skip as usize).min(rows.len())..];
-    &rest[..(count as usize).min(rest.len())]
 }
 
 // The cells of windows.

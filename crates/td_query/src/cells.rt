@@ -30,8 +30,8 @@ fn value_cell(kind: Kind, value: Value) -> Cell
     }
 }
 
-// The value at a place; one that is missing is NULL.
-fn value_in(values: &Seq<Value>, at: usize) -> Value
+/// The value at a place; one that is missing is NULL.
+pub(crate) fn value_in(values: &Seq<Value>, at: usize) -> Value
     ensures { result ≡ unwrap_or (slice_get values.now at) Value.Null }
 {
     match values.get(at) {
@@ -81,11 +81,11 @@ pub(crate) fn all_hold(columns: &[Column], line: &Line<'_>, comparisons: &[Compa
         .all(|comparison| holds(columns, line, comparison))
 }
 
-// A copy of a tag; one that is missing is NULL.
-fn tag_cell(tags: &Seq<Cell>, at: usize) -> Result<Cell, NoMem>
-    ensures { IfOk result (λ cell. cell ≡ unwrap_or (slice_get tags.now at) Cell.Null) }
+/// A copy of a cell; one that is missing is NULL.
+pub(crate) fn copy_at(cells: &Seq<Cell>, at: usize) -> Result<Cell, NoMem>
+    ensures { IfOk result (λ cell. cell ≡ unwrap_or (slice_get cells.now at) Cell.Null) }
 {
-    match tags.get(at) {
+    match cells.get(at) {
         None => Ok(Cell::Null),
         Some(cell) => {
             let cell = cell.copy()?;
@@ -112,6 +112,6 @@ pub(crate) fn cell_at(columns: &[Column], line: &Line<'_>, place: usize) -> Resu
     if place <= columns.len() {
         return Ok(column_cell(columns, place - 1, line.ts, line.values));
     }
-    let cell = tag_cell(line.tags, place - 1 - columns.len())?;
+    let cell = copy_at(line.tags, place - 1 - columns.len())?;
     Ok(cell)
 }

@@ -1,10 +1,14 @@
 //! [answers] Queries with aggregates, windows and PARTITION BY, over a snapshot of rows.
 //!
-//! [`gather`] reads the tables of a plan and gives the rows of which all conditions are true, in groups by the cells of
-//! the PARTITION BY items. [`arrange`] puts the windows of groups in the order of the answer and gives the part of them
-//! that OFFSET and LIMIT leave. It is promised that the groups are exactly those of the definitions, each with its rows
-//! by timestamp and then by table; that each table is read once; which fault comes when; and that what is shown is the
-//! part of the answer that the definitions say.
+//! [`answer`] gives a part of the answer of a plan. For a plan with an aggregate, a window or PARTITION BY it does what
+//! [`gather`], [`finish`] and [`arrange`] do one after another. [`gather`] reads the tables of the plan and gives the
+//! rows of which all conditions are true, in groups by the cells of the PARTITION BY items. [`finish`] cuts a group
+//! into its windows, each with its cells. [`arrange`] puts the windows of groups in the order of the answer and gives
+//! the part of them that OFFSET and LIMIT leave. A row query's rows are picked and shown in one go.
+//!
+//! It is promised that what is given is that part of the answer that the definitions say, over the rows that the
+//! snapshot stands for; that each table is read once, with no more steps than reading it takes; and which fault comes
+//! when.
 //!
 //! What an answer is stands in `specs`: `Groups` (partitions), `Windowed` (windows and the cells of the select list),
 //! `Arranged` and `Answered` (the answer of a plan), and `Refusals` (which select lists and windows are refused). The
@@ -13,15 +17,24 @@
 //! Nothing uses it yet.
 #![tactic(auto)]
 
+mod answers;
 mod arranging;
 mod cells;
+mod columns;
+mod finishing;
 mod gathering;
 mod groups;
+mod items;
 mod laws;
 mod parts;
+mod picks;
 mod rows;
+mod shown;
+mod spans;
 mod tables;
 
+pub use answers::answer;
 pub use arranging::arrange;
+pub use finishing::finish;
 pub use gathering::{Group, gather};
-pub use laws::interval_windows_are_all;
+pub use laws::{interval_windows_are_all, windows_that_pass_are_in_bounds};

@@ -16,15 +16,21 @@ use td_verdict::Comparison;
 /// table.
 #[derive(Clone, Copy, PartialEq, Eq, PartialOrd, Ord)]
 pub(crate) struct TimeKey {
-    ts: u64,
-    table: u32,
+    pub(crate) ts: u64,
+    pub(crate) table: u32,
 }
 
 /// Rows by timestamp, then by table.
 pub(crate) type Sorted = BTreeMap<TimeKey, Row>;
 
-// Whether a row of a table lies in the plan's range of timestamps, and all comparisons are true of it.
-fn is_wanted(plan: &Plan, comparisons: &[Comparison], table: &Table<'_>, ts: u64, row: &Row) -> bool
+/// Whether a row of a table lies in the plan's range of timestamps, and all comparisons are true of it.
+pub(crate) fn is_wanted(
+    plan: &Plan,
+    comparisons: &[Comparison],
+    table: &Table<'_>,
+    ts: u64,
+    row: &Row,
+) -> bool
     ensures { result ≡ is_wanted plan.now.schema.columns comparisons.now plan.now.lo plan.now.hi (listed table.now)
         (keyed table.now.number (ts, row.now)) }
 {

@@ -1,4 +1,5 @@
--- What the windows of a list of rows are. Of a row its timestamp is known, in milliseconds since 1970, and for state windows its state.
+-- What the windows of a list of rows are. Of a row its timestamp is known, in milliseconds since 1970, and for state
+-- windows its state.
 use Rattle.std.specs.Prelude.{◌≡◌, ◌≢◌, ℕ, ◌-◌, ℤ, pos, ◌+ℤ◌, ◌*ℤ◌, ◌<ℤ◌, Bool, true, false, not, ◌&&◌, nat_lt, int_le, int_lt, if◌then◌else◌, List, [], ◌∷◌, map, filter, Contains}
 use Rattle.std.specs.Ordering.{int_eq}
 use Rattle.std.specs.List.{AllByRecursion}
@@ -19,7 +20,8 @@ is_within len k t = int_le k (pos t) && int_lt (pos t) (k +ℤ pos len)
 
 -- the window that starts at k
 abbrev pub interval_window : {A : Type 0} → (A → ℕ) → ℕ → List A → ℤ → Window A
-interval_window time len rows k = record { start = k; end = k +ℤ pos len; rows = filter (λ row. is_within len k (time row)) rows }
+interval_window time len rows k =
+    record { start = k; end = k +ℤ pos len; rows = filter (λ row. is_within len k (time row)) rows }
 
 -- windows start at offset + j * slide, for every whole j, also below 0
 abbrev pub IsStart : ℕ → ℕ → ℤ → Type 0
@@ -31,13 +33,15 @@ StartsRise [] = Unit {0}
 StartsRise (w ∷ ws) = AllByRecursion (λ v. w.start <ℤ v.start) ws × StartsRise ws
 
 -- one of the windows that hold a row
-pub record IsIntervalWindow {A : Type 0} (time : A → ℕ) (len offset slide : ℕ) (rows : List A) (w : Window A) : Type 0 where
+pub record IsIntervalWindow {A : Type 0} (time : A → ℕ) (len offset slide : ℕ) (rows : List A) (w : Window A) :
+    Type 0 where
   pub starts : IsStart offset slide w.start
   pub is : w ≡ interval_window time len rows w.start
   pub holds : w.rows ≢ []
 
 -- these are the windows that hold a row, all of them, by their starts
-pub record AreIntervalWindows {A : Type 0} (time : A → ℕ) (len offset slide : ℕ) (rows : List A) (ws : List (Window A)) : Type 0 where
+pub record AreIntervalWindows {A : Type 0} (time : A → ℕ) (len offset slide : ℕ) (rows : List A) (ws : List (Window A))
+    : Type 0 where
   pub each : AllByRecursion (IsIntervalWindow time len offset slide rows) ws
   pub all : (w : Window A) → IsIntervalWindow time len offset slide rows w → Contains ws w
   pub by_start : StartsRise ws
@@ -78,4 +82,5 @@ is_same_state a b = false
 -- the state windows: the rows whose state isn't NULL, cut between neighbours of unequal state
 abbrev pub state_windows : {A : Type 0} → (A → ℕ) → (A → Value) → List A → List (Window A)
 state_windows time state rows =
-    map (window_of_group time) (cut (λ a b. not (is_same_state (state a) (state b))) (filter (λ row. isnt_null (state row)) rows))
+    map (window_of_group time) (cut (λ a b. not (is_same_state (state a) (state b)))
+    (filter (λ row. isnt_null (state row)) rows))

@@ -24,7 +24,8 @@ pub fn interval(
     requires length { len ≤ LONGEST_DURATION }
     requires offset { offset < len }
     requires slide { (0 < slide) × (slide ≤ len) }
-    ensures windows { IfOk result (λ spans. AreIntervalWindows (time_at ts.now) len offset slide (places (length ts.now)) (map window_of spans)) }
+    ensures windows { IfOk result (λ spans. AreIntervalWindows (time_at ts.now) len offset slide
+        (places (length ts.now)) (map window_of spans)) }
     ensures inside { IfOk result (All (IsInside (length ts.now))) }
 {
     let mut spans = Vec::new(alloc);

@@ -14,7 +14,8 @@ use td_limits::LAST_TIMESTAMP;
 pub fn session(alloc: Global, ts: &[u64], tol: u64) -> Result<Seq<Span>, NoMem>
     requires in_order { IsNonDecreasing ts.now }
     requires in_range { All (λ t. t ≤ LAST_TIMESTAMP) ts.now }
-    ensures windows { IfOk result (λ spans. map window_of spans ≡ session_windows (time_at ts.now) tol (places (length ts.now))) }
+    ensures windows { IfOk result (λ spans. map window_of spans
+        ≡ session_windows (time_at ts.now) tol (places (length ts.now))) }
     ensures inside { IfOk result (All (IsInside (length ts.now))) }
 {
     let mut spans = Vec::new(alloc);

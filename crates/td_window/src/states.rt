@@ -15,7 +15,8 @@ use td_limits::LAST_TIMESTAMP;
 pub fn state(alloc: Global, ts: &[u64], values: &[Value]) -> Result<Seq<Span>, NoMem>
     requires same_length { length ts.now ≡ length values.now }
     requires in_range { All (λ t. t ≤ LAST_TIMESTAMP) ts.now }
-    ensures windows { IfOk result (λ spans. map (window_with_states values.now) spans ≡ state_windows (time_at ts.now) (state_at values.now) (places (length ts.now))) }
+    ensures windows { IfOk result (λ spans. map (window_with_states values.now) spans
+        ≡ state_windows (time_at ts.now) (state_at values.now) (places (length ts.now))) }
     ensures inside { IfOk result (All (IsInside (length ts.now))) }
     ensures first { IfOk result (All (λ s. state_at values.now s.first ≢ value.Null)) }
     ensures last { IfOk result (All (λ s. state_at values.now (s.first + s.rows - 1) ≢ value.Null)) }
@@ -55,10 +56,13 @@ fn run_of(values: &[Value], first: usize) -> Run
     requires inside { first < length values.now }
     requires found { state_at values.now first ≢ value.Null }
     ensures last { (first ≤ result.last) × (result.last < result.next) × (result.next ≤ length values.now) }
-    ensures same { (p : ℕ) → first ≤ p → p ≤ result.last → (state_at values.now p ≡ value.Null) ⊎ (state_at values.now p ≡ state_at values.now first) }
+    ensures same { (p : ℕ) → first ≤ p → p ≤ result.last
+        → (state_at values.now p ≡ value.Null) ⊎ (state_at values.now p ≡ state_at values.now first) }
     ensures ends { state_at values.now result.last ≡ state_at values.now first }
     ensures between { (p : ℕ) → result.last < p → p < result.next → state_at values.now p ≡ value.Null }
-    ensures next { result.next < length values.now → (state_at values.now result.next ≢ value.Null) × (state_at values.now result.next ≢ state_at values.now first) }
+    ensures next { result.next < length values.now
+        → (state_at values.now result.next ≢ value.Null)
+        × (state_at values.now result.next ≢ state_at values.now first) }
 {
     let mut last = first;
     let mut next = first + 1;
