@@ -1,5 +1,6 @@
 -- What the aggregates of a column are, over a list of rows.
--- A row stands here as its key and its value in the column. COUNT(*), which looks at no column, is the length of the list.
+-- A row stands here as its key and its value in the column. COUNT(*), which looks at no column, is the length of the
+-- list.
 use Rattle.std.specs.Prelude.{◌≡◌, ◌≢◌, ℤ, pos, ◌+ℤ◌, ◌-ℤ◌, Bool, true, ◌&&◌, ◌||◌, ◌==◌, nat_lt, if◌then◌else◌, List, [], ◌∷◌, length, map, Option, Some, None}
 use Rattle.std.specs.Int.{int_min, int_max}
 use Rattle.std.specs.List.{filter_map, AllByRecursion}

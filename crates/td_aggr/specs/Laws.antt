@@ -14,11 +14,14 @@ use Rattle.td_aggr.specs.Tallies.{Mark, lesser, greater, earlier, later, empty_t
 
 -- ---- two tallies with equal fields are equal
 abbrev made_of : ℕ → ℕ → ℤ → Value → Value → Option Mark → Option Mark → Tally
-made_of rows count sum min max first last = record { rows = rows; count = count; sum = sum; min = min; max = max; first = first; last = last }
+made_of rows count sum min max first last =
+    record { rows = rows; count = count; sum = sum; min = min; max = max; first = first; last = last }
 
-pub same_tally : (a b : Tally) → a.rows ≡ b.rows → a.count ≡ b.count → a.sum ≡ b.sum → a.min ≡ b.min → a.max ≡ b.max → a.first ≡ b.first → a.last ≡ b.last → a ≡ b
+pub same_tally : (a b : Tally) → a.rows ≡ b.rows → a.count ≡ b.count → a.sum ≡ b.sum → a.min ≡ b.min → a.max ≡ b.max
+    → a.first ≡ b.first → a.last ≡ b.last → a ≡ b
 same_tally a b p q r s t u v =
-    let e : made_of a.rows a.count a.sum a.min a.max a.first a.last ≡ made_of b.rows b.count b.sum b.min b.max b.first b.last = cc in e
+    let e : made_of a.rows a.count a.sum a.min a.max a.first a.last
+    ≡ made_of b.rows b.count b.sum b.min b.max b.first b.last = cc in e
 
 -- ---- each field's own operation
 pub lesser-null : (a : Value) → lesser a value.Null ≡ a
@@ -79,10 +82,15 @@ pub unit_left : (a : Tally) → merged empty_tally a ≡ a
 unit_left a = same_tally (merged empty_tally a) a (omega arith) (omega arith) (omega (arith, ints)) refl refl refl refl
 
 pub unit_right : (a : Tally) → merged a empty_tally ≡ a
-unit_right a = same_tally (merged a empty_tally) a (omega arith) (omega arith) (omega (arith, ints)) (lesser-null a.min) (greater-null a.max) (earlier-none a.first) (later-none a.last)
+unit_right a =
+    same_tally (merged a empty_tally) a (omega arith) (omega arith) (omega (arith, ints)) (lesser-null a.min)
+    (greater-null a.max) (earlier-none a.first) (later-none a.last)
 
 pub associative : (a b c : Tally) → merged (merged a b) c ≡ merged a (merged b c)
-associative a b c = same_tally (merged (merged a b) c) (merged a (merged b c)) (omega arith) (omega arith) (omega (arith, ints)) (lesser-assoc a.min b.min c.min) (greater-assoc a.max b.max c.max) (earlier-assoc a.first b.first c.first) (later-assoc a.last b.last c.last)
+associative a b c =
+    same_tally (merged (merged a b) c) (merged a (merged b c)) (omega arith) (omega arith) (omega (arith, ints))
+    (lesser-assoc a.min b.min c.min) (greater-assoc a.max b.max c.max) (earlier-assoc a.first b.first c.first)
+    (later-assoc a.last b.last c.last)
 
 pub of_no_rows : tally_of [] ≡ empty_tally
 of_no_rows = refl
@@ -93,7 +101,8 @@ of_one_row v at = unit_right (tally_of_row v at)
 pub of_joined_rows : (xs ys : List (Key × Value)) → tally_of (xs ++ ys) ≡ merged (tally_of xs) (tally_of ys)
 of_joined_rows [] ys = sym (unit_left (tally_of ys))
 of_joined_rows (x ∷ xs) ys =
-    ap (merged (tally_of_row x.1 x.0)) (of_joined_rows xs ys) ∙ sym (associative (tally_of_row x.1 x.0) (tally_of xs) (tally_of ys))
+    ap (merged (tally_of_row x.1 x.0)) (of_joined_rows xs ys)
+    ∙ sym (associative (tally_of_row x.1 x.0) (tally_of xs) (tally_of ys))
 
 -- ---- what a tally of rows has in its fields, by the rows that aren't NULL
 abbrev mark_of : Key × ℤ → Mark
@@ -116,21 +125,33 @@ mark_of-cond : (t : Bool) (p q : Key × ℤ) → cond t (mark_of p) (mark_of q) 
 mark_of-cond true p q = refl
 mark_of-cond false p q = refl
 
-one_null_more : (at : Key) (n : ℕ) (ps : List (Key × ℤ)) → merged (tally_of_row value.Null at) (tally_of_noted n ps) ≡ tally_of_noted (suc n) ps
-one_null_more at n [] = same_tally (merged (tally_of_row value.Null at) (tally_of_noted n [])) (tally_of_noted (suc n) []) (omega arith) refl refl refl refl refl refl
-one_null_more at n (p ∷ ps) = same_tally (merged (tally_of_row value.Null at) (tally_of_noted n (p ∷ ps))) (tally_of_noted (suc n) (p ∷ ps)) (omega arith) (omega arith) (omega (arith, ints)) refl refl refl refl
+one_null_more : (at : Key) (n : ℕ) (ps : List (Key × ℤ))
+    → merged (tally_of_row value.Null at) (tally_of_noted n ps) ≡ tally_of_noted (suc n) ps
+one_null_more at n [] =
+    same_tally (merged (tally_of_row value.Null at) (tally_of_noted n [])) (tally_of_noted (suc n) []) (omega arith)
+    refl refl refl refl refl refl
+one_null_more at n (p ∷ ps) =
+    same_tally (merged (tally_of_row value.Null at) (tally_of_noted n (p ∷ ps))) (tally_of_noted (suc n) (p ∷ ps))
+    (omega arith) (omega arith) (omega (arith, ints)) refl refl refl refl
 
-one_number_more : (p : Key × ℤ) (n : ℕ) (ps : List (Key × ℤ)) → merged (tally_of_row (value.Num p.1) p.0) (tally_of_noted n ps) ≡ tally_of_noted (suc n) (p ∷ ps)
-one_number_more p n [] = same_tally (merged (tally_of_row (value.Num p.1) p.0) (tally_of_noted n [])) (tally_of_noted (suc n) (p ∷ [])) (omega arith) refl refl refl refl refl refl
+one_number_more : (p : Key × ℤ) (n : ℕ) (ps : List (Key × ℤ))
+    → merged (tally_of_row (value.Num p.1) p.0) (tally_of_noted n ps) ≡ tally_of_noted (suc n) (p ∷ ps)
+one_number_more p n [] =
+    same_tally (merged (tally_of_row (value.Num p.1) p.0) (tally_of_noted n [])) (tally_of_noted (suc n) (p ∷ []))
+    (omega arith) refl refl refl refl refl refl
 one_number_more p n (q ∷ ps) =
-    same_tally (merged (tally_of_row (value.Num p.1) p.0) (tally_of_noted n (q ∷ ps))) (tally_of_noted (suc n) (p ∷ q ∷ ps)) (omega arith) (omega arith) refl refl refl
+    same_tally (merged (tally_of_row (value.Num p.1) p.0) (tally_of_noted n (q ∷ ps)))
+    (tally_of_noted (suc n) (p ∷ q ∷ ps)) (omega arith) (omega arith) refl refl refl
     (ap Some (mark_of-cond (is_before (earliest q ps).0 p.0) (earliest q ps) p))
     (ap Some (mark_of-cond (is_before (latest q ps).0 p.0) p (latest q ps)))
 
 tally_of_is : (rows : List (Key × Value)) → tally_of rows ≡ tally_of_noted (length rows) (not_null rows)
 tally_of_is [] = refl
-tally_of_is ((at, value.Null) ∷ rows) = ap (merged (tally_of_row value.Null at)) (tally_of_is rows) ∙ one_null_more at (length rows) (not_null rows)
-tally_of_is ((at, value.Num n) ∷ rows) = ap (merged (tally_of_row (value.Num n) at)) (tally_of_is rows) ∙ one_number_more (at, n) (length rows) (not_null rows)
+tally_of_is ((at, value.Null) ∷ rows) =
+    ap (merged (tally_of_row value.Null at)) (tally_of_is rows) ∙ one_null_more at (length rows) (not_null rows)
+tally_of_is ((at, value.Num n) ∷ rows) =
+    ap (merged (tally_of_row (value.Num n) at)) (tally_of_is rows)
+    ∙ one_number_more (at, n) (length rows) (not_null rows)
 
 shown_of_noted : (f : Func) (n : ℕ) (ps : List (Key × ℤ)) → shown (tally_of_noted n ps) f ≡ aggregate_of_noted f ps
 shown_of_noted Count n [] = refl
@@ -151,4 +172,5 @@ shown_of_noted Last n (p ∷ ps) = refl
 shown_of_noted Spread n (p ∷ ps) = refl
 
 pub shows_aggregates : (f : Func) (rows : List (Key × Value)) → shown (tally_of rows) f ≡ aggregate f rows
-shows_aggregates f rows = ap (λ (t : Tally). shown t f) (tally_of_is rows) ∙ shown_of_noted f (length rows) (not_null rows)
+shows_aggregates f rows =
+    ap (λ (t : Tally). shown t f) (tally_of_is rows) ∙ shown_of_noted f (length rows) (not_null rows)

@@ -64,7 +64,9 @@ pub trait Aggr: Sized {
 
     ghost of_one_row: { (v : RowValue) (at : RowKey) → of_rows ((at, v) ∷ []) ≡ of_row v at };
 
-    ghost of_joined_rows: { (xs ys : List (RowKey × RowValue)) → of_rows (xs ++ ys) ≡ of_both (of_rows xs) (of_rows ys) };
+    ghost of_joined_rows: { (xs ys : List (RowKey × RowValue))
+        → of_rows (xs ++ ys) ≡ of_both (of_rows xs) (of_rows ys) };
 
-    ghost shows_aggregates: { (f : Aggregate) (rows : List (RowKey × RowValue)) → shows (of_rows rows) f ≡ aggregate f rows };
+    ghost shows_aggregates: { (f : Aggregate) (rows : List (RowKey × RowValue))
+        → shows (of_rows rows) f ≡ aggregate f rows };
 }

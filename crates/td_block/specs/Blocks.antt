@@ -59,7 +59,8 @@ abbrev pub Parts : Type 0
 Parts = (ℕ × (ℕ × (ℕ × ℕ))) × (List ℕ × (List ℕ × List (List (Option Value))))
 
 unfoldable pub block_parts : List Kind → Field Parts
-block_parts kinds = followed (head (Some (length kinds))) (λ h. pair (times h.1.1.0) (pair (births h.1.1.0) (columns h.1.1.0 kinds)))
+block_parts kinds =
+    followed (head (Some (length kinds))) (λ h. pair (times h.1.1.0) (pair (births h.1.1.0) (columns h.1.1.0 kinds)))
 
 -- what the parts of a block hold, and the parts of a block that holds this, where each row has as many cells as there
 -- are columns
@@ -72,7 +73,10 @@ has_width count row = length row.1.cells == count
 abbrev pub parts_of : List Kind → Held → Option Parts
 parts_of kinds held =
     (if list_all (has_width (length kinds)) held.1
-    then Some ((BLOCK_MAGIC, (held.0, (length held.1, length kinds))), (times_of held.1, (births_of held.1, columns_of (length kinds) held.1)))
+    then Some (
+      (BLOCK_MAGIC, (held.0, (length held.1, length kinds))),
+      (times_of held.1, (births_of held.1, columns_of (length kinds) held.1)),
+    )
     else None)
 
 -- A block of a table with columns of these kinds.
@@ -114,11 +118,14 @@ IsPlaced bytes (read_faults.Broken left) fault = fault ≡ faults.Bad (bytes - l
 
 -- the block that begins bytes, with its length
 abbrev pub block_read : List Kind → List ℕ → Result Block ℕ
-block_read kinds bytes = (block kinds).read bytes >>= λ x. Ok (record { table = x.0.0; rows = x.0.1; used = length bytes - length x.1 })
+block_read kinds bytes =
+    (block kinds).read bytes >>= λ x. Ok (record { table = x.0.0; rows = x.0.1; used = length bytes - length x.1 })
 
 -- the block that begins bytes, with its length, or the place of the first field that is cut short or breaks its rule
 unfoldable pub decoded : List Kind → List ℕ → Result Block ℕ
-decoded kinds bytes = placed bytes (λ (held : Held) used. record { table = held.0; rows = held.1; used = used }) ((block kinds).read bytes)
+decoded kinds bytes =
+    placed bytes (λ (held : Held) used. record { table = held.0; rows = held.1; used = used })
+    ((block kinds).read bytes)
 
 -- the block of these rows of a table begins these bytes, and has so many
 pub record Begins (kinds : List Kind) (bytes : List ℕ) (found : Block) : Type 0 where

@@ -17,7 +17,12 @@ use Rattle.td_block.specs.Bits.{bitmap_length, is_set, bitmap}
 
 -- so many items, one behind the other
 abbrev pub so_many : {A : Type 0} → ℕ → Items A → Field (List A)
-so_many count items = record { read = items_read items [] count; spelled = flat_map items.spelled; fits = λ xs. (length xs == count) && all_fit items [] xs }
+so_many count items =
+    record {
+      read = items_read items [] count;
+      spelled = flat_map items.spelled;
+      fits = λ xs. (length xs == count) && all_fit items [] xs;
+    }
 
 -- ---- kinds
 
@@ -37,14 +42,24 @@ abbrev pub named_byte : ℕ → List ℕ → Field ℕ
 named_byte rows before = checked (number w8) (λ byte. nat_lt byte (2 ^ min 8 (rows - 8 * length before)))
 
 abbrev pub named_bytes : ℕ → Items ℕ
-named_bytes rows = record { read = λ before. (named_byte rows before).read; spelled = (number w8).spelled; fits = λ before. (named_byte rows before).fits }
+named_bytes rows =
+    record {
+      read = λ before. (named_byte rows before).read;
+      spelled = (number w8).spelled;
+      fits = λ before. (named_byte rows before).fits;
+    }
 
 -- a byte of the bitmap of the values, which are only where a row names one
 abbrev pub valued_byte : List ℕ → List ℕ → Field ℕ
 valued_byte names before = checked (number w8) (λ byte. bit_and byte (slice_index names (length before)) == byte)
 
 abbrev pub valued_bytes : List ℕ → Items ℕ
-valued_bytes names = record { read = λ before. (valued_byte names before).read; spelled = (number w8).spelled; fits = λ before. (valued_byte names before).fits }
+valued_bytes names =
+    record {
+      read = λ before. (valued_byte names before).read;
+      spelled = (number w8).spelled;
+      fits = λ before. (valued_byte names before).fits;
+    }
 
 abbrev pub named : ℕ → Field (List ℕ)
 named rows = so_many (bitmap_length rows) (named_bytes rows)
@@ -87,7 +102,9 @@ lane_from name has_value (Some (value.Num n)) = (if has_value then Some n else N
 
 -- a cell of these two bits: a number of the kind, which is 0 where there is no value
 abbrev pub cell_of_bits : Kind → Bool → Bool → Field (Option Value)
-cell_of_bits kind name has_value = made (checked (kind_number kind) (λ n. has_value || int_eq n (pos 0))) (cell_from name has_value) (lane_from name has_value)
+cell_of_bits kind name has_value =
+    made (checked (kind_number kind) (λ n. has_value || int_eq n (pos 0))) (cell_from name has_value)
+    (lane_from name has_value)
 
 -- the cell of a row behind those of the rows before
 abbrev pub cell_behind : Kind → List ℕ → List ℕ → List (Option Value) → Field (Option Value)
@@ -108,7 +125,9 @@ cells kind rows names values = so_many rows (cell_items kind names values)
 
 -- what a column consists of: its code, its two bitmaps and its cells
 abbrev pub column_parts : ℕ → Kind → Field (ℕ × (List ℕ × (List ℕ × List (Option Value))))
-column_parts rows kind = followed (code kind) (λ _. followed (named rows) (λ names. followed (valued rows names) (λ values. cells kind rows names values)))
+column_parts rows kind =
+    followed (code kind) (λ _. followed (named rows)
+    (λ names. followed (valued rows names) (λ values. cells kind rows names values)))
 
 abbrev pub parts_of_column : Kind → List (Option Value) → ℕ × (List ℕ × (List ℕ × List (Option Value)))
 parts_of_column kind all = (kind_code kind, (bitmap (map is_named all), (bitmap (map is_valued all), all)))

@@ -43,7 +43,8 @@ kind_of_code code =
 
 -- What is behind so many fields of one width, which are passed over; the first that is cut short is a fault.
 abbrev pub passed : ℕ → ℕ → List ℕ → Result (List ℕ) ℕ
-passed width count bytes = (if nat_lt (length bytes) (width * count) then Err (length bytes % width) else Ok (drop (width * count) bytes))
+passed width count bytes =
+    (if nat_lt (length bytes) (width * count) then Err (length bytes % width) else Ok (drop (width * count) bytes))
 
 -- a timestamp that is at most the last
 abbrev pub first_time : List ℕ → Read ℕ
@@ -53,7 +54,8 @@ first_time bytes = (checked (number w64) (λ ts. nat_le ts LAST_TIMESTAMP)).read
 abbrev pub last_time : ℕ → ℕ → List ℕ → Read ℕ
 last_time more first bytes =
     (if more == 0 then Ok (first, bytes)
-    else (passed 8 (more - 1) bytes >>= λ after. (checked (number w64) (λ ts. nat_le ts LAST_TIMESTAMP && nat_lt first ts)).read after))
+    else (passed 8 (more - 1) bytes >>= λ after.
+    (checked (number w64) (λ ts. nat_le ts LAST_TIMESTAMP && nat_lt first ts)).read after))
 
 -- a code that is the kind's, or a fault
 abbrev pub kind_or_fault : ℕ → Option Kind → Result Kind ℕ
@@ -82,11 +84,23 @@ header_read bytes = do
   last ← last_time (h.0.1.1.0 - 1) first.0 first.1
   columns ← passed 8 h.0.1.1.0 last.1
   kinds ← items_read (kinds_of h.0.1.1.0) [] h.0.1.1.1 columns
-  Ok (record { table = h.0.1.0; rows = h.0.1.1.0; kinds = kinds.0; first = first.0; last = last.0; size = block_length h.0.1.1.0 kinds.0 }, kinds.1)
+  Ok (
+    record {
+      table = h.0.1.0;
+      rows = h.0.1.1.0;
+      kinds = kinds.0;
+      first = first.0;
+      last = last.0;
+      size = block_length h.0.1.1.0 kinds.0;
+    },
+    kinds.1,
+  )
 
 -- what the head alone tells, or the place of its first fault
 unfoldable pub head_found : List ℕ → Result Head ℕ
-head_found bytes = placed bytes (λ (h : ℕ × (ℕ × (ℕ × ℕ))) _. record { table = h.1.0; rows = h.1.1.0; columns = h.1.1.1 }) ((head None).read bytes)
+head_found bytes =
+    placed bytes (λ (h : ℕ × (ℕ × (ℕ × ℕ))) _. record { table = h.1.0; rows = h.1.1.0; columns = h.1.1.1 })
+    ((head None).read bytes)
 
 -- the parts of a head that code reads
 abbrev pub head_parts : Head → ℕ × (ℕ × (ℕ × ℕ))

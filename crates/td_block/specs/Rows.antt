@@ -30,7 +30,12 @@ abbrev pub time_behind : List ℕ → Field ℕ
 time_behind before = checked (number w64) (λ ts. nat_le ts LAST_TIMESTAMP && is_later before ts)
 
 abbrev pub time_items : Items ℕ
-time_items = record { read = λ before. (time_behind before).read; spelled = (number w64).spelled; fits = λ before. (time_behind before).fits }
+time_items =
+    record {
+      read = λ before. (time_behind before).read;
+      spelled = (number w64).spelled;
+      fits = λ before. (time_behind before).fits;
+    }
 
 -- rising timestamps of so many rows
 unfoldable pub times : ℕ → Field (List ℕ)
@@ -48,7 +53,8 @@ row_cells columns r = map (λ column. slice_index_or column r None) columns
 
 -- row r of the lists of timestamps, births and columns
 abbrev pub row_at : List ℕ → List ℕ → List (List (Option Value)) → ℕ → ℕ × Partial
-row_at ts births columns r = (slice_index ts r, record { birth = record { born = slice_index births r }; cells = row_cells columns r })
+row_at ts births columns r =
+    (slice_index ts r, record { birth = record { born = slice_index births r }; cells = row_cells columns r })
 
 abbrev pub rows_from : List ℕ → List ℕ → List (List (Option Value)) → Rows
 rows_from ts births columns = map (row_at ts births columns) (range_with_len 0 (length ts))

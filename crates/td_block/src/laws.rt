@@ -25,7 +25,8 @@ pub fn blocks_hold()
 /// is read, whatever stands behind it, and the bytes that it takes are its length.
 pub fn one_block()
     ensures one { (kinds : List KindOf) (a b : Held) (x y : List ℕ) → (block kinds).fits a ≡ true
-        → (block kinds).fits b ≡ true → (block kinds).spelled a ++ x ≡ (block kinds).spelled b ++ y → (a ≡ b) × (x ≡ y) }
+        → (block kinds).fits b ≡ true → (block kinds).spelled a ++ x ≡ (block kinds).spelled b ++ y
+        → (a ≡ b) × (x ≡ y) }
     ensures again { (kinds : List KindOf) (table : ℕ) (rows : Rows) (rest : List ℕ)
         → CanHold kinds table rows → HasNumbers table rows → decoded kinds (block_bytes kinds table rows ++ rest)
         ≡ Ok (record { table = table; rows = rows; used = length (block_bytes kinds table rows) }) }

@@ -87,8 +87,8 @@ fn compares(op: Op, a: &Cell, b: &Cell) -> bool
     }
 }
 
-/// Whether a cell passes a comparison with another. `IsNull` and `NotNull` don't look at that one, and no other comparison
-/// with NULL passes.
+/// Whether a cell passes a comparison with another. `IsNull` and `NotNull` don't look at that one, and no other
+/// comparison with NULL passes.
 pub fn cell_matches(op: Op, a: &Cell, b: &Cell) -> bool
     ensures { result ≡ cell_matches op a.now b.now }
 {

@@ -7,8 +7,8 @@ use Rattle.td_cols.specs.Spelling.{AreBytes, spelling, number_spelled}
 use Rattle.td_codec.specs.declared.fault.ReadFault.{ReadFault}
 use Rattle.td_codec.specs.declared.fault.ReadFault.TheVariants as faults
 
--- What is read from the front of bytes, with the bytes behind it; or how many bytes are left where the first field begins
--- that is cut short or breaks its rule. So a place in a part of a file is a place in the file.
+-- What is read from the front of bytes, with the bytes behind it; or how many bytes are left where the first field
+-- begins that is cut short or breaks its rule. So a place in a part of a file is a place in the file.
 abbrev pub Read : Type 0 → Type 0
 Read A = Result (A × List ℕ) ℕ
 
@@ -33,10 +33,11 @@ abbrev pub Within : {A : Type 0} → ℕ → Result A ℕ → Type 0
 Within n (Ok x) = Unit {0}
 Within n (Err left) = left ≤ n
 
--- What is read is spelled so and fits, and what fits and is spelled so is read, whatever stands behind it. So a value has one
--- spelling, and no spelling begins that of another value. A fault is a place within the bytes.
+-- What is read is spelled so and fits, and what fits and is spelled so is read, whatever stands behind it. So a value
+-- has one spelling, and no spelling begins that of another value. A fault is a place within the bytes.
 pub record SpellsOnce {A : Type 0} (field : Field A) : Type 0 where
-  pub takes : (bytes : List ℕ) (x : A × List ℕ) → AreBytes bytes → field.read bytes ≡ Ok x → Takes bytes (field.spelled x.0) x.1 × (field.fits x.0 ≡ true)
+  pub takes : (bytes : List ℕ) (x : A × List ℕ) → AreBytes bytes → field.read bytes ≡ Ok x
+      → Takes bytes (field.spelled x.0) x.1 × (field.fits x.0 ≡ true)
   pub again : (x : A) (rest : List ℕ) → field.fits x ≡ true → field.read (field.spelled x ++ rest) ≡ Ok (x, rest)
   pub within : (bytes : List ℕ) → AreBytes bytes → Within (length bytes) (field.read bytes)
 
@@ -53,7 +54,8 @@ Gives view (Err e) read = Fails e read
 
 unfoldable pub number_read : Width → List ℕ → Read ℕ
 number_read w bytes =
-    (if nat_lt (length bytes) (byte_len w) then Err (length bytes) else Ok (from_le_bytes w (take (byte_len w) bytes), drop (byte_len w) bytes))
+    (if nat_lt (length bytes) (byte_len w) then Err (length bytes)
+    else Ok (from_le_bytes w (take (byte_len w) bytes), drop (byte_len w) bytes))
 
 -- an unsigned number, the lowest byte first
 abbrev pub number : Width → Field ℕ
@@ -62,7 +64,9 @@ number w = record { read = number_read w; spelled = to_le_bytes w; fits = λ n. 
 unfoldable pub kind_number_read : Kind → List ℕ → Read ℤ
 kind_number_read kind bytes =
     (if nat_lt (length bytes) (kind_width kind) then Err (length bytes)
-    else (if is_in_range kind (number_spelled kind (take (kind_width kind) bytes)) then Ok (number_spelled kind (take (kind_width kind) bytes), drop (kind_width kind) bytes) else Err (length bytes)))
+    else (if is_in_range kind (number_spelled kind (take (kind_width kind) bytes))
+    then Ok (number_spelled kind (take (kind_width kind) bytes), drop (kind_width kind) bytes)
+    else Err (length bytes)))
 
 -- a number of a kind
 abbrev pub kind_number : Kind → Field ℤ
@@ -140,4 +144,5 @@ tagged tags tag form = record {
 
 unfoldable pub string_read : (List ℕ → Bool) → ℕ → ℕ → List ℕ → Read (List ℕ)
 string_read good left n bytes =
-    (if nat_lt (length bytes) n then Err left else (if good (take n bytes) then Ok (take n bytes, drop n bytes) else Err left))
+    (if nat_lt (length bytes) n then Err left
+    else (if good (take n bytes) then Ok (take n bytes, drop n bytes) else Err left))

@@ -4,7 +4,8 @@ use Rattle.std.specs.List.{flat_map}
 use Rattle.std.specs.Int.{w32, to_le_bytes}
 use Rattle.td_codec.specs.Fields.{Read, ◌>>=◌, Field, SpellsOnce, number_read}
 
--- The items of a list: what reading one gives behind those before it, the bytes of one, and which may stand behind those.
+-- The items of a list: what reading one gives behind those before it, the bytes of one, and which may stand behind
+-- those.
 pub record Items (A : Type 0) : Type 0 where
   pub read : List A → List ℕ → Read A
   pub spelled : A → List ℕ

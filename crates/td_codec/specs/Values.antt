@@ -89,8 +89,8 @@ key_of p = record { part = p.0; start = p.1 }
 unfoldable pub win_key : Field WinKey
 win_key = made (pair cell_list signed_64) key_of (λ k. Some (k.part, k.start))
 
--- Cells are ordered by their rank: NULL, truth values and numbers, texts, fractions. Within a rank they are ordered by their
--- number, then by their place, then by their text.
+-- Cells are ordered by their rank: NULL, truth values and numbers, texts, fractions. Within a rank they are ordered by
+-- their number, then by their place, then by their text.
 abbrev pub rank : Cell → ℕ
 rank cells.Null = 0
 rank (cells.Truth b) = 1
@@ -122,23 +122,32 @@ text_of (cells.Str t) = t
 text_of (cells.Frac sum count) = []
 
 unfoldable pub cell_cmp : Cell → Cell → Ordering
-cell_cmp a b = ordering_then (nat_cmp (rank a) (rank b)) (ordering_then (int_cmp (number_of a) (number_of b)) (ordering_then (nat_cmp (place_of a) (place_of b)) (slice_cmp nat_cmp (text_of a) (text_of b))))
+cell_cmp a b =
+    ordering_then (nat_cmp (rank a) (rank b))
+    (ordering_then (int_cmp (number_of a) (number_of b))
+    (ordering_then (nat_cmp (place_of a) (place_of b)) (slice_cmp nat_cmp (text_of a) (text_of b))))
 
--- Windows are ordered by their partitions, cell by cell, of which one that begins another comes first; within a partition
--- they are ordered by their start.
+-- Windows are ordered by their partitions, cell by cell, of which one that begins another comes first; within a
+-- partition they are ordered by their start.
 unfoldable pub win_cmp : WinKey → WinKey → Ordering
 win_cmp a b = ordering_then (slice_cmp cell_cmp a.part b.part) (int_cmp a.start b.start)
 
 -- whether a window comes after that of the last of some values, where there are any
 abbrev pub comes_after : {A : Type 0} → (A → WinKey) → List A → WinKey → Bool
-comes_after window before key = option_map_or (λ last. is_lt (win_cmp (window last) key)) (slice_get before (length before - 1)) true
+comes_after window before key =
+    option_map_or (λ last. is_lt (win_cmp (window last) key)) (slice_get before (length before - 1)) true
 
 -- windows, each after the one before it; one that isn't is a fault at its first byte
 abbrev pub win_key_behind : List WinKey → Field WinKey
 win_key_behind before = checked win_key (comes_after (λ k. k) before)
 
 unfoldable pub win_keys : Items WinKey
-win_keys = record { read = λ before. (win_key_behind before).read; spelled = win_key.spelled; fits = λ before. (win_key_behind before).fits }
+win_keys =
+    record {
+      read = λ before. (win_key_behind before).read;
+      spelled = win_key.spelled;
+      fits = λ before. (win_key_behind before).fits;
+    }
 
 unfoldable pub win_key_list : Field (List WinKey)
 win_key_list = counted win_keys
@@ -152,10 +161,17 @@ abbrev pub row_key : WinRow → WinKey
 row_key row = row.key
 
 unfoldable pub win_row_behind : List WinRow → Field WinRow
-win_row_behind before = made (pair (checked win_key (comes_after row_key before)) (pair signed_64 cell_list)) row_of (λ row. Some (row.key, (row.end, row.cells)))
+win_row_behind before =
+    made (pair (checked win_key (comes_after row_key before)) (pair signed_64 cell_list)) row_of
+    (λ row. Some (row.key, (row.end, row.cells)))
 
 unfoldable pub win_rows : Items WinRow
-win_rows = record { read = λ before. (win_row_behind before).read; spelled = (win_row_behind []).spelled; fits = λ before. (win_row_behind before).fits }
+win_rows =
+    record {
+      read = λ before. (win_row_behind before).read;
+      spelled = (win_row_behind []).spelled;
+      fits = λ before. (win_row_behind before).fits;
+    }
 
 unfoldable pub win_row_list : Field (List WinRow)
 win_row_list = counted win_rows

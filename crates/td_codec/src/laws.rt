@@ -1,5 +1,5 @@
-//! Laws: each field has one spelling. What is read is spelled so; what fits and is spelled so is read, whatever stands behind
-//! it; and a fault is a place within the bytes.
+//! Laws: each field has one spelling. What is read is spelled so; what fits and is spelled so is read, whatever stands
+//! behind it; and a fault is a place within the bytes.
 ghost use Rattle.std.specs.Prelude.{List, ℕ, Bool};
 ghost use Rattle.std.specs.Int.{w8, w16, w32, w64};
 ghost use Rattle.td_codec.specs.Fields.{SpellsOnce, number, kind_number, signed_64};

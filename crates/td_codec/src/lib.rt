@@ -1,5 +1,5 @@
-//! [formats] The fields that files share: numbers, texts, cells, windows, and lists of them, read from the left and written at the
-//! end.
+//! [formats] The fields that files share: numbers, texts, cells, windows, and lists of them, read from the left and
+//! written at the end.
 //!
 //! A function that reads a field takes the bytes from the field on, and answers the value with the bytes behind it.
 //! Where the field is cut short or breaks its rule, it answers how many bytes are left at the first byte of the

@@ -54,8 +54,8 @@ fn text_in(cell: &Cell) -> &[u8]
     }
 }
 
-/// The order of two cells: NULL, truth values and numbers by value, a truth value before the number equal to it, texts by
-/// their bytes, fractions by sum and then by count.
+/// The order of two cells: NULL, truth values and numbers by value, a truth value before the number equal to it, texts
+/// by their bytes, fractions by sum and then by count.
 #[tactic(auto, unfolding(crate::specs::Values::cell_cmp))]
 pub fn cell_order(a: &Cell, b: &Cell) -> Ordering
     ensures { result ≡ cell_cmp a.now b.now }
@@ -194,8 +194,8 @@ impl ItemReader for Rows {
     }
 }
 
-/// A count of 32 bits and so many rows of windows, each window after the one before it. A window that isn't is a fault at
-/// the first byte of its row.
+/// A count of 32 bits and so many rows of windows, each window after the one before it. A window that isn't is a fault
+/// at the first byte of its row.
 #[tactic(auto, unfolding(crate::specs::Values::win_row_list))]
 pub fn win_rows_of(alloc: Global, bytes: &[u8]) -> Result<(Seq<WinRow>, &[u8]), ReadFault>
     ensures { Gives (λ x. (x.0, x.1.now)) result (win_row_list.read bytes.now) }

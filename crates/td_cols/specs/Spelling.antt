@@ -33,4 +33,5 @@ AreBytes bytes = (i : ℕ) → slice_index bytes i < 256
 pub record HasOneSpelling (kind : Kind) : Type 0 where
   pub as_wide : (v : ℤ) → length (spelling kind v) ≡ kind_width kind
   pub spelled : (v : ℤ) → IsTrue (is_in_range kind v) → number_spelled kind (spelling kind v) ≡ v
-  pub respelled : (bytes : List ℕ) → AreBytes bytes → length bytes ≡ kind_width kind → spelling kind (number_spelled kind bytes) ≡ bytes
+  pub respelled : (bytes : List ℕ) → AreBytes bytes → length bytes ≡ kind_width kind
+      → spelling kind (number_spelled kind bytes) ≡ bytes

@@ -98,8 +98,8 @@ fn comparison_of(schema: &Schema, cond: &Cond) -> Result<Option<Comparison>, NoM
     }))
 }
 
-/// The conditions of a query over a schema as comparisons of a row's cells. A condition of a name that the schema doesn't have
-/// gives none.
+/// The conditions of a query over a schema as comparisons of a row's cells. A condition of a name that the schema
+/// doesn't have gives none.
 pub fn comparisons(alloc: Global, schema: &Schema, conds: &[Cond]) -> Result<Seq<Comparison>, NoMem>
     ensures { IfOk result (λ all. all ≡ comparisons_of schema.now conds.now) }
 {
@@ -160,8 +160,8 @@ fn star_count(is_table: bool, schema: &Schema) -> usize
     }
 }
 
-// The places of the cells that a query over a schema shows of a row. `*` shows the columns of a table, and of a supertable its
-// columns and then its tags.
+// The places of the cells that a query over a schema shows of a row. `*` shows the columns of a table, and of a
+// supertable its columns and then its tags.
 fn places_over(
     alloc: Global,
     is_table: bool,
@@ -178,8 +178,8 @@ fn places_over(
     Ok(places)
 }
 
-/// Whether a plan is of a table, and not of a supertable. Names share one space, so it is where its first table has the name of the
-/// query's source.
+/// Whether a plan is of a table, and not of a supertable. Names share one space, so it is where its first table has the
+/// name of the query's source.
 pub fn reads_one(plan: &Plan) -> bool
     ensures { result ≡ reads_one plan.now }
 {
@@ -189,8 +189,8 @@ pub fn reads_one(plan: &Plan) -> bool
     }
 }
 
-/// The places of the cells that the query of a plan shows of a row, in the order of its select list. `*` shows the columns of a
-/// table, and of a supertable its columns and then its tags.
+/// The places of the cells that the query of a plan shows of a row, in the order of its select list. `*` shows the
+/// columns of a table, and of a supertable its columns and then its tags.
 pub fn shown_places(alloc: Global, plan: &Plan) -> Result<Seq<usize>, NoMem>
     ensures { IfOk result (λ places. places ≡ shown_places (reads_one plan.now) plan.now.schema plan.now.query) }
 {

@@ -129,8 +129,9 @@ fn text_cell(lit: &Lit) -> Result<Cell, NoMem>
     }
 }
 
-/// What a literal says at a column or a tag of a kind, at a moment in milliseconds since 1970. A truth value says a number at
-/// BOOL alone, NOW at TIMESTAMP alone, a text the milliseconds of a timestamp at TIMESTAMP and itself at a kind of texts.
+/// What a literal says at a column or a tag of a kind, at a moment in milliseconds since 1970. A truth value says a
+/// number at BOOL alone, NOW at TIMESTAMP alone, a text the milliseconds of a timestamp at TIMESTAMP and itself at a
+/// kind of texts.
 pub fn said_at(kind: Kind, moment: u64, lit: &Lit) -> Said
     ensures { result ≡ said_at kind moment lit.now }
 {

@@ -1,9 +1,9 @@
 //! [tests] Cases of heads: each line of the input is a case, and its answer stands in the same line of the output.
 //!
 //! A case is `head` and bytes as hexadecimal digits, in which blanks don't count. Its answer is what the head says, and
-//! whether it is written again as it was read; or the place of the fault. A line that is empty or begins with `#` is printed
-//! as it stands. The answers beside which the program's are compared were worked out from the form of a head by hand. It
-//! stands on `td_manifest`, which it asks, on `td_layer` and `td_model`, and on `td_cases`.
+//! whether it is written again as it was read; or the place of the fault. A line that is empty or begins with `#` is
+//! printed as it stands. The answers beside which the program's are compared were worked out from the form of a head by
+//! hand. It stands on `td_manifest`, which it asks, on `td_layer` and `td_model`, and on `td_cases`.
 #![tactic(auto)]
 
 mod shown;

@@ -8,4 +8,6 @@ pub record Listed (T : Type 0) : Type 0 where
   pub spare : ℕ
 
 abbrev pub coded_listed : {T : Type 0} → Coded T → Coded (Listed T)
-coded_listed {T} c = code_by (List T × ℕ) (coded× (coded_list c) coded_ℕ) (λ s. (s.items, s.spare)) (λ p. record { items = p.0; spare = p.1 }) (λ _. refl)
+coded_listed {T} c =
+    code_by (List T × ℕ) (coded× (coded_list c) coded_ℕ) (λ s. (s.items, s.spare))
+    (λ p. record { items = p.0; spare = p.1 }) (λ _. refl)

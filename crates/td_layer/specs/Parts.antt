@@ -59,7 +59,9 @@ HaveOneWidth None q = Unit {0}
 
 -- A composition does what its parts do, one after the other.
 abbrev pub ActsAsBoth : Type 0
-ActsAsBoth = (upper under : Part) (row : Option Row) → HaveOneWidth upper.put under.put → act (composed upper under) row ≡ act upper (act under row)
+ActsAsBoth =
+    (upper under : Part) (row : Option Row) → HaveOneWidth upper.put under.put
+    → act (composed upper under) row ≡ act upper (act under row)
 
 abbrev pub IsAssociative : Type 0
 IsAssociative = (a b c : Part) → composed (composed a b) c ≡ composed a (composed b c)

@@ -16,13 +16,14 @@ pub record Cut : Type 0 where
 abbrev pub is_cut : Key → List Cut → Bool
 is_cut key cuts = list_any (λ (c : Cut). (c.table == key.table) && (nat_le c.lo key.ts && nat_le key.ts c.hi)) cuts
 
--- Partials that are left, where they are told: a call gives the first of them and leaves the others, and where there is none
--- it gives none. A fault leaves all.
+-- Partials that are left, where they are told: a call gives the first of them and leaves the others, and where there is
+-- none it gives none. A fault leaves all.
 abbrev pub GivesFirst : {X : Type 0} → Option (List X) → Option (List X) → Result (Option X) ScanFault → Type 0
 GivesFirst None None r = Unit {0}
 GivesFirst None (Some new) r = ⊥
 GivesFirst (Some old) None r = ⊥
-GivesFirst (Some old) (Some new) r = MatchResult r (λ o. MatchOption o ((old ≡ []) × (new ≡ [])) (λ x. old ≡ x ∷ new)) (λ _. new ≡ old)
+GivesFirst (Some old) (Some new) r =
+    MatchResult r (λ o. MatchOption o ((old ≡ []) × (new ≡ [])) (λ x. old ≡ x ∷ new)) (λ _. new ≡ old)
 
 -- places of bytes that are damaged: a file's number, and the place in the file
 abbrev pub Places : Type 0
@@ -40,7 +41,8 @@ Explains damaged before now (Damaged file at) = (now ≡ before) × IfSome damag
 Explains damaged before now NoMemory = now ≡ before
 
 -- A count of faults never falls, and where no fault came it stays.
-pub record HasScanCause {X : Type 0} (damaged : Option Places) (before now : ℕ) (result : Result X ScanFault) : Type 0 where
+pub record HasScanCause {X : Type 0} (damaged : Option Places) (before now : ℕ) (result : Result X ScanFault) :
+    Type 0 where
   pub later : before ≤ now
   pub kept : OnOk result (now ≡ before)
   pub fault : IfErr result (Explains damaged before now)
@@ -53,4 +55,6 @@ given (Err fault) = 0
 
 -- the rows of a table's range of timestamps, whose ends belong to it, by timestamp
 abbrev pub rows_in : ℕ → ℕ → ℕ → List (Key × Row) → List (ℕ × Row)
-rows_in table lo hi rows = map (λ (e : Key × Row). (e.0.ts, e.1)) (filter (λ (e : Key × Row). (e.0.table == table) && (nat_le lo e.0.ts && nat_le e.0.ts hi)) rows)
+rows_in table lo hi rows =
+    map (λ (e : Key × Row). (e.0.ts, e.1)) (filter
+    (λ (e : Key × Row). (e.0.table == table) && (nat_le lo e.0.ts && nat_le e.0.ts hi)) rows)

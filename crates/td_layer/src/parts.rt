@@ -92,8 +92,8 @@ pub fn put_over(
     }
 }
 
-/// The part that does what `under` and then `over` do to any row: `over` itself where it cuts, else the cut of `under` and
-/// the put of `over` on that of `under`, whose birth is kept. Where both have a put, these have equally many cells.
+/// The part that does what `under` and then `over` do to any row: `over` itself where it cuts, else the cut of `under`
+/// and the put of `over` on that of `under`, whose birth is kept. Where both have a put, these have equally many cells.
 pub fn compose(alloc: Global, over: &Part, under: &Part) -> Result<Part, NoMem>
     requires { HaveOneWidth over.now.put under.now.put }
     ensures { IfOk result (λ part. part ≡ composed over.now under.now) }

@@ -54,7 +54,8 @@ impl<T> Roomy<T> {
 
     /// Takes the last item off, or gives none where the list is empty.
     pub fn pop(&mut self) -> Option<T>
-        ensures { MatchOption result ((self.old.items ≡ []) × (self.new.items ≡ [])) (λ last. self.old.items ≡ self.new.items ++ last ∷ []) }
+        ensures { MatchOption result ((self.old.items ≡ []) × (self.new.items ≡ []))
+            (λ last. self.old.items ≡ self.new.items ++ last ∷ []) }
     {
         self.items.pop()
     }

@@ -34,8 +34,8 @@ impl From<NoMem> for ScanFault {
 
 /// A scan of one layer: the partials of a table in a range of timestamps, by key, and the layer's cuts there.
 ///
-/// What it stands for is told or not: a scan of what is in memory tells it, one over a real file doesn't. A fault leaves the
-/// scan as it was, so that `next` may be called again.
+/// What it stands for is told or not: a scan of what is in memory tells it, one over a real file doesn't. A fault
+/// leaves the scan as it was, so that `next` may be called again.
 pub trait RowScan {
     /// The partials that are left, where they are told.
     ghost left: { Self → Option (List (Key × Partial)) };
@@ -52,9 +52,10 @@ pub trait RowScan {
     /// How often its reader failed.
     ghost count: { Self → ℕ };
 
-    /// The first of the partials that are left, or none where none is left. A partial is one step. Each named value of it is
-    /// NULL or lies in -2^63 to 2^64 - 1. The first call reads the cuts. A fault leaves the partials that are left and the
-    /// cuts: `ReadFault` comes only where the count of faults rose, `Damaged` only with a damaged place where these are told.
+    /// The first of the partials that are left, or none where none is left. A partial is one step. Each named value of
+    /// it is NULL or lies in -2^63 to 2^64 - 1. The first call reads the cuts. A fault leaves the partials that are
+    /// left and the cuts: `ReadFault` comes only where the count of faults rose, `Damaged` only with a damaged place
+    /// where these are told.
     fn next<L: Ledger>(&mut self, steps: &mut Steps<L>) -> Result<Option<(Key, Partial)>, ScanFault>
         ensures partials { GivesFirst (left self.old) (left self.new) result }
         ensures in_order { IfSome (left self.old) InKeyOrder }
@@ -90,8 +91,8 @@ pub trait Snapshot {
     /// How often its readers failed.
     ghost count: { Self → ℕ };
 
-    /// The rows of a table from `lo` to `hi`, both among them, by timestamp. It takes at least one step for each row that
-    /// it gives, and at most one for each partial that the layers hold there. Each value is NULL or lies in
+    /// The rows of a table from `lo` to `hi`, both among them, by timestamp. It takes at least one step for each row
+    /// that it gives, and at most one for each partial that the layers hold there. Each value is NULL or lies in
     /// -2^63 to 2^64 - 1. It leaves what the snapshot stands for, also where it answers a fault; the faults come as those
     /// of [`RowScan::next`].
     fn rows_of<L: Ledger>(

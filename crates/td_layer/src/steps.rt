@@ -4,8 +4,8 @@ ghost use Rattle.std.specs.Prelude.{◌≡◌, ◌+◌, ◌<◌};
 use std::marker::Model;
 use std::sync::ledger::{Blank, Book, Ledger, Share};
 
-/// How many steps were taken, of which each is one row or partial that was taken from a scan. It takes no bytes, and only
-/// [`Steps::tick`] changes it.
+/// How many steps were taken, of which each is one row or partial that was taken from a scan. It takes no bytes, and
+/// only [`Steps::tick`] changes it.
 #[derive(Drop)]
 pub struct Steps<L: Ledger> {
     book: Book<L>,

@@ -27,7 +27,8 @@ pub enum Value {
     Num(i128),
 }
 
-/// A row's table, by number, and its timestamp in milliseconds since 1970. Keys are ordered by table, then by timestamp.
+/// A row's table, by number, and its timestamp in milliseconds since 1970. Keys are ordered by table, then by
+/// timestamp.
 #[derive(Clone, Copy, Debug, PartialEq, Eq, PartialOrd, Ord)]
 pub struct Key {
     pub table: u32,

@@ -11,7 +11,8 @@ pub const DAY_RANGE: u64 = 864_000_000;
 /// The number of the last day range, which holds the last timestamp.
 pub const LAST_DAY_RANGE: u32 = 293_289;
 
-/// How long rows are kept, in milliseconds: 3650 days. TRIM moves the retention edge to the day range that lies this long ago.
+/// How long rows are kept, in milliseconds: 3650 days. TRIM moves the retention edge to the day range that lies this
+/// long ago.
 pub const KEEP: u64 = 315_360_000_000;
 
 /// The longest duration of a window, a watermark or a delay, in milliseconds: 3,650,000 days.

@@ -66,13 +66,17 @@ kind_parts kind = Some (kind_code kind, text_size kind)
 
 -- a kind that is allowed at a place
 unfoldable pub kind_field : Place → Field Kind
-kind_field place = made (followed (checked (number w8) (is_code place)) (λ code. size_field (kind_by code))) (λ p. with_size (kind_by p.0) p.1) kind_parts
+kind_field place =
+    made (followed (checked (number w8) (is_code place)) (λ code. size_field (kind_by code)))
+    (λ p. with_size (kind_by p.0) p.1) kind_parts
 
 -- ---- columns
 
 -- a column or a tag with a name that isn't taken, of a kind that is allowed at its place
 unfoldable pub column_field : Place → (List ℕ → Bool) → Field Column
-column_field place is_taken = made (pair (new_name is_taken) (kind_field place)) (λ p. record { name = p.0; kind = p.1 }) (λ c. Some (c.name, c.kind))
+column_field place is_taken =
+    made (pair (new_name is_taken) (kind_field place)) (λ p. record { name = p.0; kind = p.1 })
+    (λ c. Some (c.name, c.kind))
 
 -- whether a column has a name
 abbrev pub has_column : List ℕ → List Column → Bool
@@ -91,10 +95,20 @@ abbrev pub tag_behind : List Column → List Column → Field Column
 tag_behind columns before = column_field places.Tag (λ name. has_column name columns || has_column name before)
 
 unfoldable pub column_items : Items Column
-column_items = record { read = λ before. (column_behind before).read; spelled = (column_behind []).spelled; fits = λ before. (column_behind before).fits }
+column_items =
+    record {
+      read = λ before. (column_behind before).read;
+      spelled = (column_behind []).spelled;
+      fits = λ before. (column_behind before).fits;
+    }
 
 unfoldable pub tag_items : List Column → Items Column
-tag_items columns = record { read = λ before. (tag_behind columns before).read; spelled = (column_behind []).spelled; fits = λ before. (tag_behind columns before).fits }
+tag_items columns =
+    record {
+      read = λ before. (tag_behind columns before).read;
+      spelled = (column_behind []).spelled;
+      fits = λ before. (tag_behind columns before).fits;
+    }
 
 -- the columns of a table, the timestamp first
 unfoldable pub columns_field : Field (List Column)

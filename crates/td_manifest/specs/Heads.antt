@@ -40,7 +40,8 @@ unfoldable pub stables_field : ℕ → Field (List HeadStable)
 stables_field version = listed w32 (λ n. nat_le n TABLES && begun version (n == 0)) stable_items
 
 unfoldable pub tables_field : ℕ → List HeadStable → Field (List HeadTable)
-tables_field version stables = listed w32 (λ n. nat_le (length stables + n) TABLES && begun version (n == 0)) (table_items stables)
+tables_field version stables =
+    listed w32 (λ n. nat_le (length stables + n) TABLES && begun version (n == 0)) (table_items stables)
 
 unfoldable pub sets_field : ℕ → Field (List HeadSet)
 sets_field version = listed w32 (λ n. begun version (n == 0)) set_items
@@ -63,7 +64,9 @@ abbrev pub Objects : Type 0
 Objects = (List HeadStable × List HeadTable) × (List HeadSet × (ℕ × List HeadStream))
 
 unfoldable pub objects_field : ℕ → Field Objects
-objects_field version = pair (followed (stables_field version) (tables_field version)) (pair (sets_field version) (followed (next_field version) (streams_field version)))
+objects_field version =
+    pair (followed (stables_field version) (tables_field version))
+    (pair (sets_field version) (followed (next_field version) (streams_field version)))
 
 abbrev pub head_of : Start × Objects → Head
 head_of p = record {
@@ -79,7 +82,8 @@ head_of p = record {
 }
 
 abbrev pub head_parts : Head → Option (Start × Objects)
-head_parts h = Some ((h.version, (h.moment, (h.first_log, h.edge))), ((h.stables, h.tables), (h.sets, (h.next_stream, h.streams))))
+head_parts h =
+    Some ((h.version, (h.moment, (h.first_log, h.edge))), ((h.stables, h.tables), (h.sets, (h.next_stream, h.streams))))
 
 unfoldable pub head_body : Field Head
 head_body = made (followed start_field (λ start. objects_field start.0)) head_of head_parts
@@ -99,11 +103,14 @@ abbrev pub Framed : Type 0
 Framed = Unit {0} × (ℕ × (ℕ × (Head × Unit {0})))
 
 unfoldable pub frame : ℕ → Field Framed
-frame size = pair (mark (codes "TDH1")) (pair (checked (number w64) (λ n. n == size)) (pair (checked (number w32) (λ n. n == FORMAT)) (pair head_body (mark (codes "TDHE")))))
+frame size =
+    pair (mark (codes "TDH1")) (pair (checked (number w64) (λ n. n == size))
+    (pair (checked (number w32) (λ n. n == FORMAT)) (pair head_body (mark (codes "TDHE")))))
 
 -- a head's bytes around the count of all of them
 unfoldable pub framed : ℕ → Head → List ℕ
-framed size h = codes "TDH1" ++ (to_le_bytes w64 size ++ (to_le_bytes w32 FORMAT ++ (head_body.spelled h ++ codes "TDHE")))
+framed size h =
+    codes "TDH1" ++ (to_le_bytes w64 size ++ (to_le_bytes w32 FORMAT ++ (head_body.spelled h ++ codes "TDHE")))
 
 -- The bytes are a head: they are spelled so, and each value keeps its rules.
 pub record IsHead (bytes : List ℕ) (h : Head) : Type 0 where
@@ -118,7 +125,8 @@ pub record HasBytes (h : Head) : Type 0 where
 
 -- what reading all the bytes gives; bytes left over are a fault at the first of them
 unfoldable pub head_read : List ℕ → Result Head ℕ
-head_read bytes = (frame (length bytes)).read bytes >>= λ x. (if length x.1 == 0 then Ok x.0.1.1.1.0 else Err (length x.1))
+head_read bytes =
+    (frame (length bytes)).read bytes >>= λ x. (if length x.1 == 0 then Ok x.0.1.1.1.0 else Err (length x.1))
 
 -- the place of the first field that is cut short or breaks its rule
 pub record BreaksAt (bytes : List ℕ) (at : ℕ) : Type 0 where
@@ -126,7 +134,8 @@ pub record BreaksAt (bytes : List ℕ) (at : ℕ) : Type 0 where
   pub breaks : head_read bytes ≡ Err left
   pub place : at ≡ length bytes - left
 
--- What is answered of bytes: the head that they are, or the place where they break its form. Want of memory says nothing.
+-- What is answered of bytes: the head that they are, or the place where they break its form. Want of memory says
+-- nothing.
 abbrev pub Answers : List ℕ → Result Head HeadFault → Type 0
 Answers bytes (Ok h) = IsHead bytes h
 Answers bytes (Err (faults.NotThis at)) = BreaksAt bytes at

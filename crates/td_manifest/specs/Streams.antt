@@ -9,7 +9,8 @@ use Rattle.td_codec.specs.Lists.{Items}
 use Rattle.td_codec.specs.Values.{win_row_list}
 use Rattle.td_manifest.specs.declared.head.HeadStream.{HeadStream}
 
--- A length of 32 bits, and so many bytes. These are two fields: where there are fewer bytes, the first of them is at fault.
+-- A length of 32 bits, and so many bytes. These are two fields: where there are fewer bytes, the first of them is at
+-- fault.
 unfoldable pub statement_text : Field (List ℕ)
 statement_text = record {
   read = λ bytes. number_read w32 bytes >>= λ n. string_read (λ _. true) (length n.1) n.0 n.1;
@@ -19,14 +20,16 @@ statement_text = record {
 
 -- whether a number comes after that of the last of some streams, where there are any
 abbrev pub comes_next : List HeadStream → ℕ → Bool
-comes_next before number = option_map_or (λ (last : HeadStream). nat_lt last.number number) (slice_get before (length before - 1)) true
+comes_next before number =
+    option_map_or (λ (last : HeadStream). nat_lt last.number number) (slice_get before (length before - 1)) true
 
 -- number, version of creation, text, version up to which its result goes, moment of its last step, and its result
 abbrev pub StreamParts : Type 0
 StreamParts = ℕ × (ℕ × (List ℕ × (ℕ × (ℕ × List WinRow))))
 
 abbrev pub stream_of : StreamParts → HeadStream
-stream_of p = record { number = p.0; made = p.1.0; text = p.1.1.0; upto = p.1.1.1.0; moment = p.1.1.1.1.0; rows = p.1.1.1.1.1 }
+stream_of p =
+    record { number = p.0; made = p.1.0; text = p.1.1.0; upto = p.1.1.1.0; moment = p.1.1.1.1.0; rows = p.1.1.1.1.1 }
 
 abbrev pub stream_parts : HeadStream → Option StreamParts
 stream_parts s = Some (s.number, (s.made, (s.text, (s.upto, (s.moment, s.rows)))))
@@ -35,8 +38,8 @@ stream_parts s = Some (s.number, (s.made, (s.text, (s.upto, (s.moment, s.rows)))
 abbrev pub number_field : ℕ → List HeadStream → Field ℕ
 number_field next before = checked (number w32) (λ n. (nat_le 1 n && nat_lt n next) && comes_next before n)
 
--- A stream was made at a version from 1 on. Its result goes up to a version below the head's, and at least up to the one
--- before the stream was made.
+-- A stream was made at a version from 1 on. Its result goes up to a version below the head's, and at least up to the
+-- one before the stream was made.
 abbrev pub made_field : ℕ → Field ℕ
 made_field version = checked (number w64) (λ made. nat_le 1 made && nat_le made version)
 
@@ -49,7 +52,14 @@ step_moment = checked (number w64) (λ moment. nat_le moment LAST_TIMESTAMP)
 -- a stream of a head of this version and next number, behind others
 unfoldable pub stream_behind : ℕ → ℕ → List HeadStream → Field HeadStream
 stream_behind version next before =
-    made (pair (number_field next before) (followed (made_field version) (λ made. pair statement_text (pair (upto_field version made) (pair step_moment win_row_list))))) stream_of stream_parts
+    made (pair (number_field next before) (followed (made_field version)
+    (λ made. pair statement_text (pair (upto_field version made) (pair step_moment win_row_list))))) stream_of
+    stream_parts
 
 unfoldable pub stream_items : ℕ → ℕ → Items HeadStream
-stream_items version next = record { read = λ before. (stream_behind version next before).read; spelled = (stream_behind 0 0 []).spelled; fits = λ before. (stream_behind version next before).fits }
+stream_items version next =
+    record {
+      read = λ before. (stream_behind version next before).read;
+      spelled = (stream_behind 0 0 []).spelled;
+      fits = λ before. (stream_behind version next before).fits;
+    }

@@ -30,7 +30,8 @@ latest_field = perhaps (λ n. nat_le n LAST_TIMESTAMP)
 
 -- the columns, and the tags, whose names differ from those of the columns
 unfoldable pub schema_field : Field Schema
-schema_field = made (followed columns_field tags_field) (λ p. record { columns = p.0; tags = p.1 }) (λ s. Some (s.columns, s.tags))
+schema_field =
+    made (followed columns_field tags_field) (λ p. record { columns = p.0; tags = p.1 }) (λ s. Some (s.columns, s.tags))
 
 abbrev pub stable_names : List HeadStable → List (List ℕ)
 stable_names stables = map (λ (s : HeadStable). s.name) stables
@@ -40,10 +41,17 @@ stable_of p = record { name = p.0; schema = p.1.0; latest = p.1.1 }
 
 -- a supertable with a name that none of these has
 unfoldable pub stable_behind : List (List ℕ) → Field HeadStable
-stable_behind taken = made (pair (new_name (λ name. is_among name taken)) (pair schema_field latest_field)) stable_of (λ s. Some (s.name, (s.schema, s.latest)))
+stable_behind taken =
+    made (pair (new_name (λ name. is_among name taken)) (pair schema_field latest_field)) stable_of
+    (λ s. Some (s.name, (s.schema, s.latest)))
 
 unfoldable pub stable_items : Items HeadStable
-stable_items = record { read = λ before. (stable_behind (stable_names before)).read; spelled = (stable_behind []).spelled; fits = λ before. (stable_behind (stable_names before)).fits }
+stable_items =
+    record {
+      read = λ before. (stable_behind (stable_names before)).read;
+      spelled = (stable_behind []).spelled;
+      fits = λ before. (stable_behind (stable_names before)).fits;
+    }
 
 -- ---- the tags of a subtable
 
@@ -78,7 +86,12 @@ tag_cell_of None = unknown
 tag_cell_of (Some tag) = tag_cell tag.kind
 
 unfoldable pub tag_cell_items : List Column → Items Cell
-tag_cell_items tags = record { read = λ before. (tag_cell_of (slice_get tags (length before))).read; spelled = cell.spelled; fits = λ before. (tag_cell_of (slice_get tags (length before))).fits }
+tag_cell_items tags =
+    record {
+      read = λ before. (tag_cell_of (slice_get tags (length before))).read;
+      spelled = cell.spelled;
+      fits = λ before. (tag_cell_of (slice_get tags (length before))).fits;
+    }
 
 -- one cell for each of these tags
 unfoldable pub tag_cells : List Column → Field (List Cell)
@@ -113,7 +126,8 @@ table_body stables = tagged (checked (number w32) (λ n. nat_le n (length stable
 
 -- the bytes of a table behind its name, whichever supertables there are
 unfoldable pub body_bytes : TableBody → List ℕ
-body_bytes (bodies.Plain columns latest) = to_le_bytes w32 0 ++ (columns_field.spelled columns ++ latest_field.spelled latest)
+body_bytes (bodies.Plain columns latest) =
+    to_le_bytes w32 0 ++ (columns_field.spelled columns ++ latest_field.spelled latest)
 body_bytes (bodies.Sub stable tags) = to_le_bytes w32 stable ++ (tag_cells []).spelled tags
 
 abbrev pub table_name : HeadTable → List ℕ
@@ -133,7 +147,9 @@ table_with name (bodies.Sub stable tags) = tables.Sub name stable tags
 
 -- a table over these supertables, with a name that none of these has
 unfoldable pub table_behind : List HeadStable → List (List ℕ) → Field HeadTable
-table_behind stables taken = made (pair (new_name (λ name. is_among name taken)) (table_body stables)) (λ p. table_with p.0 p.1) (λ t. Some (table_name t, body_of t))
+table_behind stables taken =
+    made (pair (new_name (λ name. is_among name taken)) (table_body stables)) (λ p. table_with p.0 p.1)
+    (λ t. Some (table_name t, body_of t))
 
 -- the bytes of a table
 unfoldable pub table_bytes : HeadTable → List ℕ

@@ -28,7 +28,8 @@ abbrev pub can_put_cells : List Cell → Bool
 can_put_cells cells = nat_lt (length cells) (2 ^ 16) && list_all cell.fits cells
 
 unfoldable pub can_put_stable : HeadStable → Bool
-can_put_stable s = nat_lt (length s.name) (2 ^ 16) && (can_put_columns s.schema.columns && can_put_columns s.schema.tags)
+can_put_stable s =
+    nat_lt (length s.name) (2 ^ 16) && (can_put_columns s.schema.columns && can_put_columns s.schema.tags)
 
 unfoldable pub can_put_table : HeadTable → Bool
 can_put_table (tables.Plain name columns latest) = nat_lt (length name) (2 ^ 16) && can_put_columns columns

@@ -54,7 +54,8 @@ fn main_file_of<'a>(
     files: &mut Files,
     bytes: &'a [u8],
 ) -> Result<(Option<u64>, &'a [u8]), ReadFault>
-    ensures read { Gives (λ x. (x.0, x.1.now)) result ((perhaps (λ file. not (is_used file files.old))).read bytes.now) }
+    ensures read { Gives (λ x. (x.0, x.1.now)) result
+        ((perhaps (λ file. not (is_used file files.old))).read bytes.now) }
     ensures used { IfOk result (λ x. files.new ≡ files.old ++ main_file x.0) }
 {
     let (file, rest) = u64_of(bytes)?;
@@ -79,7 +80,8 @@ fn rises(before: &[HeadSet], range: u32) -> bool
 
 /// A day range that comes after those of these sets.
 fn range_of<'a>(before: &[HeadSet], bytes: &'a [u8]) -> Result<(u32, &'a [u8]), ReadFault>
-    ensures { Gives (λ x. (x.0, x.1.now)) result ((checked (number w32) (λ range. nat_le range LAST_DAY_RANGE && rises before.now range)).read bytes.now) }
+    ensures { Gives (λ x. (x.0, x.1.now)) result
+        ((checked (number w32) (λ range. nat_le range LAST_DAY_RANGE && rises before.now range)).read bytes.now) }
 {
     let (range, rest) = u32_of(bytes)?;
     if range <= LAST_DAY_RANGE && rises(before, range) {

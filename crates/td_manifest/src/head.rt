@@ -3,8 +3,8 @@ use td_layer::{Cell, Name, Seq};
 use td_model::{Column, Schema, WinRow};
 
 /// The head of a store at a committed version: the catalog, the file sets and the streams. The moment is that of the
-/// version's entry, in milliseconds since 1970. Rows before the day range `edge` are gone. Supertables, tables and streams
-/// stand in the order of their creation, file sets in that of their day ranges.
+/// version's entry, in milliseconds since 1970. Rows before the day range `edge` are gone. Supertables, tables and
+/// streams stand in the order of their creation, file sets in that of their day ranges.
 #[derive(Debug, Drop)]
 pub struct Head {
     pub version: u64,
@@ -49,8 +49,8 @@ pub struct HeadSet {
     pub stt: Seq<u64>,
 }
 
-/// A stream: its number, the version that made it, the text of its CREATE STREAM, the version up to which its result goes,
-/// the moment of its last step, and its result.
+/// A stream: its number, the version that made it, the text of its CREATE STREAM, the version up to which its result
+/// goes, the moment of its last step, and its result.
 #[derive(Debug, Drop)]
 pub struct HeadStream {
     pub number: u32,

@@ -1,20 +1,21 @@
 //! [formats] The head of a store: the catalog, the file sets and the streams at a committed version, in one file.
 //!
-//! [`decode`] gives the head that bytes are, or the place of the first field that is cut short or breaks its rule. [`encode`]
-//! gives the bytes of a head. What a field may be can depend on what was read before: names differ, a subtable has a
-//! supertable that is there and a cell for each of its tags, no file stands twice, day ranges and numbers of streams rise.
+//! [`decode`] gives the head that bytes are, or the place of the first field that is cut short or breaks its rule.
+//! [`encode`] gives the bytes of a head. What a field may be can depend on what was read before: names differ, a
+//! subtable has a supertable that is there and a cell for each of its tags, no file stands twice, day ranges and
+//! numbers of streams rise.
 //!
-//! Promised: what is read is exactly the head that the bytes are, and the place of a fault exactly the first one; only want of
-//! memory keeps `decode` from its answer. What `encode` gives is a head, and it is that one. What bytes are a head is a relation
-//! of bytes and values, made of fields, and it is proved that bytes are one head at most, break the form at one place, and
-//! that a head has one spelling. So what was written is read back.
+//! Promised: what is read is exactly the head that the bytes are, and the place of a fault exactly the first one; only
+//! want of memory keeps `decode` from its answer. What `encode` gives is a head, and it is that one. What bytes are a
+//! head is a relation of bytes and values, made of fields, and it is proved that bytes are one head at most, break the
+//! form at one place, and that a head has one spelling. So what was written is read back.
 //!
-//! Reading takes time in proportion to the bytes: names and files that were read are kept in hash sets (`IndexSet`), whose
-//! keys in their order are the names and the files so far; a supertable is found by its number. The columns of one table, of
-//! which there are 288 at most, are compared one by one.
+//! Reading takes time in proportion to the bytes: names and files that were read are kept in hash sets (`IndexSet`),
+//! whose keys in their order are the names and the files so far; a supertable is found by its number. The columns of
+//! one table, of which there are 288 at most, are compared one by one.
 //!
-//! It stands on `td_codec` for the fields, on `td_grammar` and `td_lex` for the words that may be names, on `td_cols` for
-//! kinds, and on `td_model` for columns and windows.
+//! It stands on `td_codec` for the fields, on `td_grammar` and `td_lex` for the words that may be names, on `td_cols`
+//! for kinds, and on `td_model` for columns and windows.
 #![tactic(auto)]
 
 mod columns;

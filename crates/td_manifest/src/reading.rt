@@ -234,8 +234,8 @@ fn answer(alloc: Global, bytes: &[u8]) -> Result<Head, HeadFault>
     }
 }
 
-/// The head that bytes are. `NotThis` comes exactly where they are none, with the place of the first field that is cut short
-/// or breaks its rule.
+/// The head that bytes are. `NotThis` comes exactly where they are none, with the place of the first field that is cut
+/// short or breaks its rule.
 pub fn decode(alloc: Global, bytes: &[u8]) -> Result<Head, HeadFault>
     ensures exact { Answers bytes.now result }
     // The head that was read can be written.

@@ -269,7 +269,8 @@ fn stable_number_of<'a>(
     stables: &[HeadStable],
     bytes: &'a [u8],
 ) -> Result<(u32, &'a [u8]), ReadFault>
-    ensures { Gives (λ x. (x.0, x.1.now)) result ((checked (number w32) (λ n. nat_le n (length stables.now))).read bytes.now) }
+    ensures { Gives (λ x. (x.0, x.1.now)) result
+        ((checked (number w32) (λ n. nat_le n (length stables.now))).read bytes.now) }
 {
     let (number, rest) = u32_of(bytes)?;
     if number as usize <= stables.len() {

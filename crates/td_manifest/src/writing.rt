@@ -234,7 +234,8 @@ impl Put for HeadStream {
 
 /// Adds what a head says before its objects.
 fn put_start(out: &mut Name, head: &Head) -> Result<(), NoMem>
-    ensures { OnOk result (out.new ≡ out.old ++ start_field.spelled (head.now.version, (head.now.moment, (head.now.first_log, head.now.edge)))) }
+    ensures { OnOk result (out.new ≡ out.old
+        ++ start_field.spelled (head.now.version, (head.now.moment, (head.now.first_log, head.now.edge)))) }
 {
     put_u64(out, head.version)?;
     put_u64(out, head.moment)?;
@@ -247,7 +248,9 @@ fn put_start(out: &mut Name, head: &Head) -> Result<(), NoMem>
 #[tactic(auto, using(std::proofs::lemmas::List::append_assoc), unfolding(crate::specs::Heads::objects_field, crate::specs::Heads::stables_field, crate::specs::Heads::tables_field, crate::specs::Heads::sets_field, crate::specs::Heads::streams_field, crate::specs::Tables::table_items, crate::specs::Streams::stream_items, crate::specs::Streams::stream_behind))]
 fn put_objects(out: &mut Name, head: &Head) -> Result<(), NoMem>
     requires { IsTrue (head_body.fits head.now) }
-    ensures { OnOk result (out.new ≡ out.old ++ (objects_field head.now.version).spelled ((head.now.stables, head.now.tables), (head.now.sets, (head.now.next_stream, head.now.streams)))) }
+    ensures { OnOk result (out.new ≡ out.old
+        ++ (objects_field head.now.version).spelled
+        ((head.now.stables, head.now.tables), (head.now.sets, (head.now.next_stream, head.now.streams)))) }
 {
     put_list(out, head.stables.as_slice())?;
     put_list(out, head.tables.as_slice())?;
@@ -261,7 +264,8 @@ fn put_objects(out: &mut Name, head: &Head) -> Result<(), NoMem>
 #[tactic(auto, using(std::proofs::lemmas::List::append_assoc), unfolding(crate::specs::Heads::head_body))]
 fn put_rest(out: &mut Name, head: &Head) -> Result<(), NoMem>
     requires { IsTrue (head_body.fits head.now) }
-    ensures { OnOk result (out.new ≡ out.old ++ (to_le_bytes w32 FORMAT ++ (head_body.spelled head.now ++ codes "TDHE"))) }
+    ensures { OnOk result (out.new ≡ out.old
+        ++ (to_le_bytes w32 FORMAT ++ (head_body.spelled head.now ++ codes "TDHE"))) }
 {
     put_u32(out, FORMAT)?;
     put_start(out, head)?;

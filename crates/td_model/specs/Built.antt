@@ -34,7 +34,8 @@ is_whole _ = false
 
 -- a query without aggregate, window and PARTITION BY
 abbrev pub is_row_query : Query → Bool
-is_row_query q = not (list_any (λ (i : Item). is_aggregate i.what) q.items) && is_whole q.window && (length q.parts == 0)
+is_row_query q =
+    not (list_any (λ (i : Item). is_aggregate i.what) q.items) && is_whole q.window && (length q.parts == 0)
 
 -- the statements that are built; the others are refused as not built
 abbrev pub is_built : Stmt → Bool

@@ -10,7 +10,8 @@ use Rattle.td_model.specs.declared.catalog.Column.{Column}
 use Rattle.td_model.specs.declared.history.What.{What}
 use Rattle.td_model.specs.declared.history.What.TheVariants as what
 
--- supertables and tables, each numbered from 1 in the order of their creation; the live streams in that order; and the number that the next stream gets
+-- supertables and tables, each numbered from 1 in the order of their creation; the live streams in that order; and the
+-- number that the next stream gets
 pub record Catalog : Type 0 where
   pub stables : List StableDef
   pub tables : List TableDef
@@ -64,10 +65,17 @@ schema_of c t = schema_by c t.parent t.columns
 
 -- the catalog after an entry
 abbrev pub with_what : What → Catalog → Catalog
-with_what (what.MakeStable name schema) c = record c { stables = c.stables ++ record { name = name; schema = schema } ∷ [] }
-with_what (what.MakeTable name columns) c = record c { tables = c.tables ++ record { name = name; parent = None; columns = columns; tags = [] } ∷ [] }
-with_what (what.MakeSub name stable tags) c = record c { tables = c.tables ++ record { name = name; parent = Some stable; columns = []; tags = tags } ∷ [] }
-with_what (what.MakeStream def) c = record c { streams = c.streams ++ record { number = c.next_stream; def = def } ∷ []; next_stream = c.next_stream + 1 }
+with_what (what.MakeStable name schema) c =
+    record c { stables = c.stables ++ record { name = name; schema = schema } ∷ [] }
+with_what (what.MakeTable name columns) c =
+    record c { tables = c.tables ++ record { name = name; parent = None; columns = columns; tags = [] } ∷ [] }
+with_what (what.MakeSub name stable tags) c =
+    record c { tables = c.tables ++ record { name = name; parent = Some stable; columns = []; tags = tags } ∷ [] }
+with_what (what.MakeStream def) c =
+    record c {
+      streams = c.streams ++ record { number = c.next_stream; def = def } ∷ [];
+      next_stream = c.next_stream + 1;
+    }
 with_what (what.DropStream n) c = record c { streams = filter (λ (e : StreamEntry). not (e.number == n)) c.streams }
 with_what (what.Put puts) c = c
 with_what (what.Cut table lo hi) c = c

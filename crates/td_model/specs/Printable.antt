@@ -17,7 +17,8 @@ use Rattle.td_model.specs.Text.{report_text}
 
 -- a letter, a digit or `_`
 abbrev pub is_word_byte : ℕ → Bool
-is_word_byte b = (nat_le 48 b && nat_le b 57) || (nat_le 65 b && nat_le b 90) || (nat_le 97 b && nat_le b 122) || b == 95
+is_word_byte b =
+    (nat_le 48 b && nat_le b 57) || (nat_le 65 b && nat_le b 90) || (nat_le 97 b && nat_le b 122) || b == 95
 
 -- The name of a column or a stream has nothing but letters, digits and `_`.
 abbrev pub IsWord : List ℕ → Type 0
@@ -33,7 +34,8 @@ pub record IsItem (item : List ℕ) : Type 0 where
   pub bytes : IsTrue (list_all is_item_byte item)
 
 -- so it is with each form of an item
-items : IsTrue (list_all (λ item. list_all is_item_byte item) (codes "voltage" ∷ codes "AVG(voltage)" ∷ codes "COUNT(*)" ∷ codes "TBNAME" ∷ codes "_wstart" ∷ []))
+items : IsTrue (list_all (λ item. list_all is_item_byte item)
+    (codes "voltage" ∷ codes "AVG(voltage)" ∷ codes "COUNT(*)" ∷ codes "TBNAME" ∷ codes "_wstart" ∷ []))
 items = refl
 
 -- Counts, versions, moments and places are below 2 ^ 64, as in a `u64`.

@@ -43,7 +43,17 @@ pub record State : Type 0 where
   pub halt : Option ℕ
 
 abbrev pub empty_state : State
-empty_state = record { version = 0; moment = 0; catalog = empty_catalog; stable_latest = []; table_latest = []; rows = []; edge = 0; halt = None }
+empty_state =
+    record {
+      version = 0;
+      moment = 0;
+      catalog = empty_catalog;
+      stable_latest = [];
+      table_latest = [];
+      rows = [];
+      edge = 0;
+      halt = None;
+    }
 
 -- Cells laid over the row that is there. A new row is born at the moment, and a row that is there keeps its birth.
 abbrev pub lay : List (Option Value) → ℕ → Option Row → Row
@@ -84,9 +94,18 @@ is_cut table lo hi key = (key.table == table) && (nat_le lo key.ts && nat_le key
 -- What an entry does to a state that has its version and moment already. The states before the entry are given too, the
 -- newest first: a step of a stream will look at one of them.
 abbrev pub effect : List State → What → State → State
-effect past (what.MakeStable name schema) s = record s { catalog = with_what (what.MakeStable name schema) s.catalog; stable_latest = s.stable_latest ++ None ∷ [] }
-effect past (what.MakeTable name columns) s = record s { catalog = with_what (what.MakeTable name columns) s.catalog; table_latest = s.table_latest ++ None ∷ [] }
-effect past (what.MakeSub name stable tags) s = record s { catalog = with_what (what.MakeSub name stable tags) s.catalog; table_latest = s.table_latest ++ None ∷ [] }
+effect past (what.MakeStable name schema) s =
+    record s {
+      catalog = with_what (what.MakeStable name schema) s.catalog;
+      stable_latest = s.stable_latest ++ None ∷ [];
+    }
+effect past (what.MakeTable name columns) s =
+    record s { catalog = with_what (what.MakeTable name columns) s.catalog; table_latest = s.table_latest ++ None ∷ [] }
+effect past (what.MakeSub name stable tags) s =
+    record s {
+      catalog = with_what (what.MakeSub name stable tags) s.catalog;
+      table_latest = s.table_latest ++ None ∷ [];
+    }
 effect past (what.Put puts) s = put_all puts s
 effect past (what.Cut table lo hi) s = record s { rows = filter (λ e. not (is_cut table lo hi e.0)) s.rows }
 effect past (what.Edge edge) s = record s { edge = edge; rows = filter (λ e. nat_le (edge * DAY_RANGE) e.0.ts) s.rows }

@@ -49,7 +49,9 @@ passes op.NotNull o = false
 
 -- numbers compare by their size, texts by their bytes; two cells that aren't both numbers or both texts don't compare
 abbrev pub compares : Op → Cell → Cell → Bool
-compares op a b = option_map_or (passes op) (order_of int_cmp (number_of a) (number_of b)) (option_map_or (passes op) (order_of (slice_cmp nat_cmp) (text_of a) (text_of b)) false)
+compares op a b =
+    option_map_or (passes op) (order_of int_cmp (number_of a) (number_of b))
+    (option_map_or (passes op) (order_of (slice_cmp nat_cmp) (text_of a) (text_of b)) false)
 
 -- whether a cell passes a comparison with another, which `IsNull` and `NotNull` don't look at
 abbrev pub cell_matches : Op → Cell → Cell → Bool

@@ -90,9 +90,13 @@ row_line cells = cells_text cells ++ codes "\n"
 
 abbrev pub reply_text : Reply → List ℕ
 reply_text (reply.Accepted version) = codes "accepted " ++ decimal version ++ codes "\n"
-reply_text (reply.AcceptedRows version rows) = codes "accepted " ++ decimal version ++ codes " rows " ++ decimal rows ++ codes "\n"
-reply_text (reply.AcceptedEdge version edge) = codes "accepted " ++ decimal version ++ codes " edge " ++ decimal edge ++ codes "\n"
-reply_text (reply.Answer prefix names rows) = codes "answer " ++ decimal prefix ++ codes " rows " ++ decimal (length rows) ++ codes "\n" ++ names_text names ++ codes "\n" ++ flat_map row_line rows
+reply_text (reply.AcceptedRows version rows) =
+    codes "accepted " ++ decimal version ++ codes " rows " ++ decimal rows ++ codes "\n"
+reply_text (reply.AcceptedEdge version edge) =
+    codes "accepted " ++ decimal version ++ codes " edge " ++ decimal edge ++ codes "\n"
+reply_text (reply.Answer prefix names rows) =
+    codes "answer " ++ decimal prefix ++ codes " rows " ++ decimal (length rows) ++ codes "\n" ++ names_text names
+    ++ codes "\n" ++ flat_map row_line rows
 reply_text (reply.Opened prefix) = codes "opened " ++ decimal prefix ++ codes "\n"
 reply_text reply.Closed = codes "closed\n"
 reply_text (reply.Committed version) = codes "committed " ++ decimal version ++ codes "\n"
@@ -101,7 +105,8 @@ reply_text (reply.Stopped version) = codes "stopped " ++ decimal version ++ code
 reply_text (reply.Merged count) = codes "merged " ++ decimal count ++ codes "\n"
 reply_text (reply.Swept count) = codes "swept " ++ decimal count ++ codes "\n"
 reply_text reply.Asked = codes "asked\n"
-reply_text (reply.Refused prefix cause) = codes "refused " ++ decimal prefix ++ codes " " ++ cause_text cause ++ codes "\n"
+reply_text (reply.Refused prefix cause) =
+    codes "refused " ++ decimal prefix ++ codes " " ++ cause_text cause ++ codes "\n"
 reply_text reply.StoreFault = codes "store fault\n"
 reply_text (reply.StoreFaultHalt halt) = codes "store fault halt " ++ decimal halt ++ codes "\n"
 reply_text (reply.Damaged file at) = codes "damaged " ++ decimal file ++ codes " " ++ decimal at ++ codes "\n"
@@ -113,19 +118,25 @@ reply_line r = decimal r.0 ++ codes "." ++ decimal r.1 ++ codes " " ++ reply_tex
 
 -- whose entry it is: `0` for an entry of no session
 abbrev pub who_text : ℕ → ℕ → List ℕ
-who_text session ordinal = if session == 0 && ordinal == 0 then codes "0" else decimal session ++ codes "." ++ decimal ordinal
+who_text session ordinal =
+    if session == 0 && ordinal == 0 then codes "0" else decimal session ++ codes "." ++ decimal ordinal
 
 abbrev pub mark_text : Mark → List ℕ
 mark_text mark.Plain = []
-mark_text (mark.Step stream upto moment) = codes " step " ++ stream ++ codes " " ++ decimal upto ++ codes " " ++ decimal moment
+mark_text (mark.Step stream upto moment) =
+    codes " step " ++ stream ++ codes " " ++ decimal upto ++ codes " " ++ decimal moment
 mark_text mark.Halt = codes " halt"
 
 abbrev pub journal_line : JournalLine → List ℕ
-journal_line j = decimal j.version ++ codes " " ++ who_text j.session j.ordinal ++ codes " " ++ decimal j.moment ++ mark_text j.mark ++ codes "\n"
+journal_line j =
+    decimal j.version ++ codes " " ++ who_text j.session j.ordinal ++ codes " " ++ decimal j.moment ++ mark_text j.mark
+    ++ codes "\n"
 
 -- a live stream, and the version that it is brought up to
 abbrev pub stream_line : (List ℕ × ℕ) → List ℕ
 stream_line s = codes "stream " ++ s.0 ++ codes " upto " ++ decimal s.1 ++ codes "\n"
 
 abbrev pub report_text : Report → List ℕ
-report_text r = codes "base " ++ decimal r.base ++ codes "\n" ++ flat_map reply_line r.replies ++ flat_map stream_line r.streams ++ codes "journal " ++ decimal (length r.journal) ++ codes "\n" ++ flat_map journal_line r.journal
+report_text r =
+    codes "base " ++ decimal r.base ++ codes "\n" ++ flat_map reply_line r.replies ++ flat_map stream_line r.streams
+    ++ codes "journal " ++ decimal (length r.journal) ++ codes "\n" ++ flat_map journal_line r.journal

@@ -24,8 +24,8 @@ pub struct StableDef {
     pub schema: Schema,
 }
 
-/// A table. Tables are numbered from 1 by their creation. A subtable has the number of its supertable, whose columns are
-/// its own, and its tags; a plain table has its columns.
+/// A table. Tables are numbered from 1 by their creation. A subtable has the number of its supertable, whose columns
+/// are its own, and its tags; a plain table has its columns.
 #[derive(Debug, Drop)]
 pub struct TableDef {
     pub name: Name,

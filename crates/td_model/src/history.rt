@@ -44,7 +44,8 @@ pub enum What {
     Halt,
 }
 
-/// An entry of the history: what it does, the session and ordinal of its statement, and its moment in milliseconds since
+/// An entry of the history: what it does, the session and ordinal of its statement, and its moment in milliseconds
+/// since
 /// 1970. An entry of no session has session 0 and ordinal 0.
 #[derive(Debug, Drop)]
 pub struct Entry {
@@ -54,8 +55,8 @@ pub struct Entry {
     pub what: What,
 }
 
-/// What a statement meets in a state: a write is accepted as an entry, with the count of its rows; a query passes; either
-/// may be refused.
+/// What a statement meets in a state: a write is accepted as an entry, with the count of its rows; a query passes;
+/// either may be refused.
 #[derive(Debug, Drop)]
 pub enum Verdict {
     Accept(What, u32),

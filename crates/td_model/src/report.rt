@@ -147,8 +147,8 @@ pub struct JournalLine {
     pub mark: Mark,
 }
 
-/// All that a run tells: the version of the state that it began in, the replies by session and ordinal, the live streams
-/// with the version that each is brought up to, and the journal.
+/// All that a run tells: the version of the state that it began in, the replies by session and ordinal, the live
+/// streams with the version that each is brought up to, and the journal.
 #[derive(Debug, Drop)]
 pub struct Report {
     pub base: u64,

@@ -1,4 +1,5 @@
--- The images that a crash may leave of what a store tells: which bytes are stable, and what the disk may make of the others.
+-- The images that a crash may leave of what a store tells: which bytes are stable, and what the disk may make of the
+-- others.
 use Rattle.std.specs.Prelude.{◌≡◌, ◌⊎◌, ℕ, ◌≤◌, Bool, true, false, ◌||◌, List, [], ◌∷◌, length, take, drop, Option, Some, None, IsSome, IfSome}
 use Rattle.td_outside.specs.Image.{Log, Image, no_doubt}
 use Rattle.td_outside.specs.Logs.{new_log}
@@ -8,8 +9,8 @@ abbrev pub Stays : Option (ℕ × ℕ) → List ℕ → List ℕ → Type 0
 Stays None old left = left ≡ old
 Stays (Some range) old left = (take range.0 left ≡ take range.0 old) × (drop range.1 left ≡ drop range.1 old)
 
--- What a crash may leave of the bytes of a log: in the unsynced range anything, of what the log grew by since it was synced
--- any part.
+-- What a crash may leave of the bytes of a log: in the unsynced range anything, of what the log grew by since it was
+-- synced any part.
 pub record IsLeft (log : Log) (left : List ℕ) : Type 0 where
   pub stays : Stays log.unsynced log.bytes left
   pub no_shorter : log.stable ≤ length left
@@ -29,8 +30,8 @@ abbrev pub LeavesLog : (fresh gone : Bool) → Option Log → Option Log → Typ
 LeavesLog fresh gone log left =
     IsLeftOf log left ⊎ (((fresh ≡ true) × (left ≡ Some new_log)) ⊎ ((gone ≡ true) × (left ≡ None)))
 
--- What a crash may leave of the file of a number. A finished file stays, unless its removal failed. An unfinished file may be
--- gone, or there with any bytes.
+-- What a crash may leave of the file of a number. A finished file stays, unless its removal failed. An unfinished file
+-- may be gone, or there with any bytes.
 abbrev pub LeavesFile : (unfinished removed : Bool) → Option (List ℕ) → Option (List ℕ) → Type 0
 LeavesFile unfinished removed (Some bytes) left = (left ≡ Some bytes) ⊎ ((removed ≡ true) × (left ≡ None))
 LeavesFile unfinished removed None left = (left ≡ None) ⊎ ((unfinished ≡ true) × IsSome left)
@@ -40,12 +41,14 @@ abbrev pub LeavesHead : List (Option (List ℕ)) → Option (List ℕ) → Optio
 LeavesHead [] head left = left ≡ head
 LeavesHead (other ∷ others) head left = (left ≡ other) ⊎ LeavesHead others head left
 
--- An image that a crash at this moment may leave. Nothing of it is unsynced or in doubt, and no writer or reader is out.
+-- An image that a crash at this moment may leave. Nothing of it is unsynced or in doubt, and no writer or reader is
+-- out.
 pub record MayLeave (now left : Image) : Type 0 where
   pub head : LeavesHead now.doubt.heads now.head left.head
   pub logs : (n : ℕ) → LeavesLog (now.doubt.fresh n) (now.doubt.gone n) (now.logs n) (left.logs n)
   pub making : (n : ℕ) → left.making n ≡ false
-  pub files : (n : ℕ) → LeavesFile (now.making n || now.doubt.strays n) (now.doubt.removed n) (now.files n) (left.files n)
+  pub files : (n : ℕ) → LeavesFile (now.making n || now.doubt.strays n) (now.doubt.removed n) (now.files n)
+      (left.files n)
   pub readers : (n : ℕ) → left.readers n ≡ 0
   pub doubt : left.doubt ≡ no_doubt
 

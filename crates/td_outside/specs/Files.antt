@@ -37,7 +37,11 @@ after_create name image = record image { making = put name true image.making }
 
 -- A file of this name is no longer in making; whether something of it may be there after a crash.
 abbrev pub after_abandon : ℕ → Bool → Image → Image
-after_abandon name stray image = record image { making = put name false image.making; doubt = record image.doubt { strays = put name stray image.doubt.strays } }
+after_abandon name stray image =
+    record image {
+      making = put name false image.making;
+      doubt = record image.doubt { strays = put name stray image.doubt.strays };
+    }
 
 -- an unfinished file is given up; it may stay behind for a crash
 abbrev pub GivesUp : ℕ → Image → Image → Type 0
@@ -45,7 +49,15 @@ GivesUp name old new = (stray : Bool) × (new ≡ after_abandon name stray old)
 
 -- the file in making under a name is finished with these bytes, under a number
 abbrev pub after_finish : ℕ → ℕ → List ℕ → Image → Image
-after_finish name n bytes image = record image { files = put n (Some bytes) image.files; making = put name false image.making; doubt = record image.doubt { strays = put n false image.doubt.strays; removed = put n false image.doubt.removed } }
+after_finish name n bytes image =
+    record image {
+      files = put n (Some bytes) image.files;
+      making = put name false image.making;
+      doubt = record image.doubt {
+        strays = put n false image.doubt.strays;
+        removed = put n false image.doubt.removed;
+      };
+    }
 
 -- The file in making under a name is finished with these bytes, under a number that no finished file and no open reader
 -- had.
@@ -63,7 +75,11 @@ after_close n image = record image { readers = put n (image.readers n - 1) image
 
 -- a finished file is gone
 abbrev pub after_remove : ℕ → Image → Image
-after_remove n image = record image { files = put n None image.files; doubt = record image.doubt { removed = put n false image.doubt.removed } }
+after_remove n image =
+    record image {
+      files = put n None image.files;
+      doubt = record image.doubt { removed = put n false image.doubt.removed };
+    }
 
 -- a removal failed: the file is there, and a crash may leave it or not
 abbrev pub after_failed_remove : ℕ → Image → Image

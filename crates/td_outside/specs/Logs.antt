@@ -22,7 +22,12 @@ widened from to (Some range) = Some (min from range.0, max to range.1)
 
 -- bytes were written to a log at a place
 abbrev pub after_write : ℕ → List ℕ → Log → Log
-after_write at bytes log = record { bytes = overwritten at bytes log.bytes; stable = log.stable; unsynced = widened at (at + length bytes) log.unsynced }
+after_write at bytes log =
+    record {
+      bytes = overwritten at bytes log.bytes;
+      stable = log.stable;
+      unsynced = widened at (at + length bytes) log.unsynced;
+    }
 
 -- all of a log is stable
 abbrev pub after_sync : Log → Log
@@ -34,7 +39,11 @@ with_log n f image = record image { logs = put n (option_map f (image.logs n)) i
 
 -- a new log stands in the place of what was there
 abbrev pub after_log_create : ℕ → Image → Image
-after_log_create n image = record image { logs = put n (Some new_log) image.logs; doubt = record image.doubt { fresh = put n false image.doubt.fresh; gone = put n false image.doubt.gone } }
+after_log_create n image =
+    record image {
+      logs = put n (Some new_log) image.logs;
+      doubt = record image.doubt { fresh = put n false image.doubt.fresh; gone = put n false image.doubt.gone };
+    }
 
 -- a log couldn't be made: all is as it was, and a crash may leave the new log
 abbrev pub after_failed_log_create : ℕ → Image → Image
@@ -43,13 +52,18 @@ after_failed_log_create n image = record image { doubt = record image.doubt { fr
 -- a log is gone, if it was there
 abbrev pub after_log_drop : ℕ → Image → Image
 after_log_drop n image =
-    (if is_some (image.logs n) then record image { logs = put n None image.logs; doubt = record image.doubt { fresh = put n false image.doubt.fresh; gone = put n false image.doubt.gone } } else image)
+    (if is_some (image.logs n) then record image {
+      logs = put n None image.logs;
+      doubt = record image.doubt
+          { fresh = put n false image.doubt.fresh; gone = put n false image.doubt.gone };
+    } else image)
 
 -- a log couldn't be dropped: all is as it was, and a crash may leave it or not
 abbrev pub after_failed_log_drop : ℕ → Image → Image
 after_failed_log_drop n image = record image { doubt = record image.doubt { gone = put n true image.doubt.gone } }
 
--- A write of some bytes at a place failed: in their range any may stand, and elsewhere the same. The log may have grown.
+-- A write of some bytes at a place failed: in their range any may stand, and elsewhere the same. The log may have
+-- grown.
 pub record IsTorn (at count : ℕ) (old new : List ℕ) : Type 0 where
   pub before : take at new ≡ take at old
   pub after : drop (at + count) new ≡ drop (at + count) old
@@ -58,7 +72,8 @@ pub record IsTorn (at count : ℕ) (old new : List ℕ) : Type 0 where
 
 -- a log with these bytes after a write of some bytes at a place that failed
 abbrev pub after_torn_write : ℕ → ℕ → List ℕ → Log → Log
-after_torn_write at count bytes log = record { bytes = bytes; stable = log.stable; unsynced = widened at (at + count) log.unsynced }
+after_torn_write at count bytes log =
+    record { bytes = bytes; stable = log.stable; unsynced = widened at (at + count) log.unsynced }
 
 -- a write of some bytes at a place of a log failed
 pub record Tears (n at count : ℕ) (old new : Image) : Type 0 where

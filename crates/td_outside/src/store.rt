@@ -34,8 +34,8 @@ pub trait Reader: Send {
         ensures size { result ≡ size self.now }
         ensures bytes { IfSome (bytes self.now) (λ b. length b ≡ result) };
 
-    /// Reads bytes of its file from `at` on into the front of `buf`: at least one where the buffer isn't empty and `at` is
-    /// less than `len`, and none behind the end. The file stays as it is.
+    /// Reads bytes of its file from `at` on into the front of `buf`: at least one where the buffer isn't empty and `at`
+    /// is less than `len`, and none behind the end. The file stays as it is.
     fn read_at(&mut self, at: u64, buf: &mut [u8]) -> Result<usize, Failed>
         ensures within { ReadsWithin (size self.old) at (length buf.new) result }
         ensures read { ReadsAt (bytes self.old) at buf.new result }
@@ -73,12 +73,12 @@ pub trait Writer: Send {
         ensures { result ≡ count self.now };
 }
 
-/// A store: a head, logs by number, and finished files by number. What each call makes of them is said over what the store
-/// tells; a store that tells nothing is held to the counts alone, and to what the calls answer.
+/// A store: a head, logs by number, and finished files by number. What each call makes of them is said over what the
+/// store tells; a store that tells nothing is held to the counts alone, and to what the calls answer.
 ///
-/// What isn't named as changed stays. A call that finds no memory leaves the store as it was. A call that fails leaves what a
-/// read gives as it was, but for a swap of the head, which may have been done, and for a write to a log, which may have left
-/// anything in its range; what a crash may leave after it is told as a doubt.
+/// What isn't named as changed stays. A call that finds no memory leaves the store as it was. A call that fails leaves
+/// what a read gives as it was, but for a swap of the head, which may have been done, and for a write to a log, which
+/// may have left anything in its range; what a crash may leave after it is told as a doubt.
 pub trait Store: Send {
     type Reader: Reader;
 
@@ -107,11 +107,12 @@ pub trait Store: Send {
         ensures no_memory { IsErrOf result io_fault.NoMemory → self.new ≡ self.old }
         ensures cause { HasFault (count self.old) (count self.new) result };
 
-    /// Makes a finished file of the writer's bytes, stable, under the number that it answers, which no finished file and no
-    /// open reader had. Where it fails there is no file. The faults of the writer become the store's.
+    /// Makes a finished file of the writer's bytes, stable, under the number that it answers, which no finished file
+    /// and no open reader had. Where it fails there is no file. The faults of the writer become the store's.
     fn finish(&mut self, w: Self::Writer) -> Result<u64, Failed>
         ensures number { IfOk result (λ n. n < 2 ^ 64 - 1) }
-        ensures ok { IfOk result (λ n. IfSome (Self.Writer.written w) (λ bytes. Along (Finishes (Self.Writer.name w) n bytes) (told self.old) (told self.new))) }
+        ensures ok { IfOk result (λ n. IfSome (Self.Writer.written w)
+            (λ bytes. Along (Finishes (Self.Writer.name w) n bytes) (told self.old) (told self.new))) }
         ensures failed { OnErr result (Along (GivesUp (Self.Writer.name w)) (told self.old) (told self.new)) }
         ensures cause { TakesOver (count self.old) (Self.Writer.count w) (count self.new) result };
 
@@ -160,7 +161,8 @@ pub trait Store: Send {
     /// Puts a log whose one stable byte is a closed gate, 0, in the place of what is there.
     fn log_create(&mut self, alloc: Global, log: u64) -> Result<(), IoFault>
         ensures ok { OnOk result (Becomes (after_log_create log) (told self.old) (told self.new)) }
-        ensures failed { IsErrOf result io_fault.Failed → Becomes (after_failed_log_create log) (told self.old) (told self.new) }
+        ensures failed { IsErrOf result io_fault.Failed
+            → Becomes (after_failed_log_create log) (told self.old) (told self.new) }
         ensures no_memory { IsErrOf result io_fault.NoMemory → self.new ≡ self.old }
         ensures cause { HasFault (count self.old) (count self.new) result };
 
@@ -168,7 +170,8 @@ pub trait Store: Send {
     fn log_append(&mut self, alloc: Global, log: u64, at: u64, bytes: &[u8]) -> Result<(), IoFault>
         requires within { IfSome (told self.old) (HasLog log (λ l. at ≤ length l.bytes)) }
         ensures ok { OnOk result (Becomes (with_log log (after_write at bytes.now)) (told self.old) (told self.new)) }
-        ensures failed { IsErrOf result io_fault.Failed → Along (Tears log at (length bytes.now)) (told self.old) (told self.new) }
+        ensures failed { IsErrOf result io_fault.Failed
+            → Along (Tears log at (length bytes.now)) (told self.old) (told self.new) }
         ensures no_memory { IsErrOf result io_fault.NoMemory → self.new ≡ self.old }
         ensures cause { HasFault (count self.old) (count self.new) result };
 
@@ -188,7 +191,8 @@ pub trait Store: Send {
 
     /// The bytes of a log, or none where it isn't there.
     fn log_read(&mut self, alloc: Global, log: u64) -> Result<Option<Seq<u8>>, IoFault>
-        ensures bytes { IfOk result (λ bytes. IfSome (told self.old) (λ image. bytes ≡ option_map (λ l. l.bytes) (image.logs log))) }
+        ensures bytes { IfOk result (λ bytes. IfSome (told self.old)
+            (λ image. bytes ≡ option_map (λ l. l.bytes) (image.logs log))) }
         ensures same { told self.new ≡ told self.old }
         ensures no_memory { IsErrOf result io_fault.NoMemory → self.new ≡ self.old }
         ensures cause { HasFault (count self.old) (count self.new) result };
@@ -221,8 +225,8 @@ pub trait Place {
     /// How often the stores failed that it took back.
     ghost taken: { Self → ℕ };
 
-    /// Gives its store out, which has no fault so far and the image of the place with no reader open: a process that enters
-    /// has opened none yet. Where it is refused, the store stays in, and its image is as it was.
+    /// Gives its store out, which has no fault so far and the image of the place with no reader open: a process that
+    /// enters has opened none yet. Where it is refused, the store stays in, and its image is as it was.
     fn enter(&mut self, alloc: Global, name: &[u8]) -> Result<Self::Dir, IoFault>
         requires inside { is_out self.old ≡ false }
         ensures out { is_out self.new ≡ is_ok result }

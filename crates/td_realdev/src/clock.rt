@@ -7,8 +7,8 @@ use std::time::SystemTime;
 use td_limits::LAST_TIMESTAMP;
 use td_outside::Clock;
 
-/// The system's clock in milliseconds since 1970, up to the end of year 9999. Where the system gives no reading it answers
-/// what it answered last, and 0 before the first. Contracts see it as what it answered last.
+/// The system's clock in milliseconds since 1970, up to the end of year 9999. Where the system gives no reading it
+/// answers what it answered last, and 0 before the first. Contracts see it as what it answered last.
 #[derive(Drop)]
 pub struct SystemClock {
     rt: HostRuntime,

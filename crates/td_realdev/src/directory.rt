@@ -1,8 +1,8 @@
 //! A directory of the system that holds a head, logs and files.
 //!
-//! It holds `head`, `w` and a log's number, `f` and a file's number, in decimal; other names are ignored. The head and a new
-//! log are written aside, synced and renamed, and then the directory is synced. A log is made longer ahead of its end by
-//! zeros, so that a sync of what is written into it changes no size.
+//! It holds `head`, `w` and a log's number, `f` and a file's number, in decimal; other names are ignored. The head and
+//! a new log are written aside, synced and renamed, and then the directory is synced. A log is made longer ahead of its
+//! end by zeros, so that a sync of what is written into it changes no size.
 ghost use Rattle.std.specs.Prelude.{◌<◌, ◌-◌, ◌^◌, length, vec_len, IfOk, IfSome};
 
 use crate::log::LogFile;

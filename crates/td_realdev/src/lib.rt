@@ -1,10 +1,11 @@
-//! [run] The real devices: standard input and output, a directory with its store, the system's clock, and a gate that does nothing.
+//! [run] The real devices: standard input and output, a directory with its store, the system's clock, and a gate that
+//! does nothing.
 //!
-//! Each counts its faults: an error raises the count, and a call fails only where it rose. None tells anything of what it
-//! holds, but for how many bytes an input gave and whether a place's store is out. A directory holds `head`, `w` and a log's
-//! number, `f` and a file's number; the head and a new log are written aside, synced, renamed, and the directory is synced;
-//! one process at a time can have entered it. The clock gives at most the end of the year 9999. These few lines call the system,
-//! and are trusted to do so.
+//! Each counts its faults: an error raises the count, and a call fails only where it rose. None tells anything of what
+//! it holds, but for how many bytes an input gave and whether a place's store is out. A directory holds `head`, `w` and
+//! a log's number, `f` and a file's number; the head and a new log are written aside, synced, renamed, and the
+//! directory is synced; one process at a time can have entered it. The clock gives at most the end of the year 9999.
+//! These few lines call the system, and are trusted to do so.
 //!
 //! A call takes its memory before it changes the directory. Where a file was renamed or taken away, and the sync of the
 //! directory then fails, `head_swap`, `log_create`, `log_drop` and `remove` answer that they failed, and the change is

@@ -9,8 +9,8 @@ use std::marker::Model;
 use std::str;
 use td_outside::{Failed, IoFault, Place, Store};
 
-/// A place that enters the directory of a name, which it makes where it is missing, and locks it against other processes while
-/// its store is out. Contracts see whether the store is out, and the counts.
+/// A place that enters the directory of a name, which it makes where it is missing, and locks it against other
+/// processes while its store is out. Contracts see whether the store is out, and the counts.
 #[derive(Drop)]
 pub struct DirPlace {
     rt: HostRuntime,

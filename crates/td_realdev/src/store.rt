@@ -87,8 +87,8 @@ fn read_some(file: &File, at: u64, buf: &mut [u8]) -> io::Result<usize>
     Err(io::Error::from(ErrorKind::Interrupted))
 }
 
-/// A writer of a file of the system. Each piece is written behind the last whole one, so that what a failed write left there is
-/// written over. Contracts see the number of the file and the count of faults.
+/// A writer of a file of the system. Each piece is written behind the last whole one, so that what a failed write left
+/// there is written over. Contracts see the number of the file and the count of faults.
 pub struct FileWriter {
     number: u64,
     file: File,

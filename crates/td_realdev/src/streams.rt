@@ -71,8 +71,8 @@ impl<R: Read> Source for StandardInput<R> {
     }
 }
 
-/// A writer of std as a sink. A write that was interrupted is made again, and one that takes nothing of a piece that isn't
-/// empty is a fault. Contracts see it as its count of faults.
+/// A writer of std as a sink. A write that was interrupted is made again, and one that takes nothing of a piece that
+/// isn't empty is a fault. Contracts see it as its count of faults.
 #[derive(Drop)]
 pub struct StandardOutput<W: Write> {
     inner: W,

@@ -1,7 +1,7 @@
 -- A moment as a date and a time of day, its full text, and the milliseconds since 1970.
 use Rattle.std.specs.Prelude.{ℕ, ◌+◌, ◌*◌, ◌/◌, ◌%◌, ◌<◌, ℤ, pos, ◌+ℤ◌, ◌*ℤ◌, List, [], ◌∷◌, ◌++◌}
 use Rattle.jiff_core.specs.Calendar.{IsCivilDate, days_from_civil}
-use Rattle.td_times.specs.Times.{Stamp}
+use Rattle.td_times.specs.Times.{a_day, a_second, Stamp}
 
 -- the digits of a number, with zeros on the left
 abbrev pub two_digits : ℕ → List ℕ
@@ -28,7 +28,7 @@ pub record Exists (m : Moment) : Type 0 where
   pub hour : m.hour < 24
   pub minute : m.minute < 60
   pub second : m.second < 60
-  pub millisecond : m.millisecond < 1000
+  pub millisecond : m.millisecond < a_second
 
 -- its full form, with three digits of a fraction
 abbrev pub full : Moment → Stamp
@@ -44,5 +44,5 @@ full m = record {
 
 -- the milliseconds since 1970
 abbrev pub since_1970 : Moment → ℤ
-since_1970 m = pos 86400000 *ℤ days_from_civil (pos m.year) m.month m.day +ℤ pos
-    (((m.hour * 60 + m.minute) * 60 + m.second) * 1000 + m.millisecond)
+since_1970 m = pos a_day *ℤ days_from_civil (pos m.year) m.month m.day +ℤ pos
+    (((m.hour * 60 + m.minute) * 60 + m.second) * a_second + m.millisecond)

@@ -4,7 +4,7 @@ use Rattle.std.specs.Char.{is_ascii_digit}
 use Rattle.std.specs.List.{list_all}
 use Rattle.std.specs.Option.{option_map, option_and_then}
 use Rattle.jiff_core.specs.Calendar.{days_in_month, days_from_civil}
-use Rattle.td_times.specs.Times.{value, filled}
+use Rattle.td_times.specs.Times.{a_day, a_second, value, filled}
 
 infixl 10 ◌>>=◌
 abbrev pub ◌>>=◌ : {A B : Type 0} → Option A → (A → Option B) → Option B
@@ -47,7 +47,7 @@ date_of text = do
 
 -- the milliseconds of a whole second of the day
 unfoldable pub second_of : ℕ → ℕ → ℕ → Option ℕ
-second_of h m s = if nat_lt h 24 && (nat_lt m 60 && nat_lt s 60) then Some (((h * 60 + m) * 60 + s) * 1000) else None
+second_of h m s = if nat_lt h 24 && (nat_lt m 60 && nat_lt s 60) then Some (((h * 60 + m) * 60 + s) * a_second) else None
 
 unfoldable pub clock_of : List ℕ → Option (ℕ × List ℕ)
 clock_of text = do
@@ -72,4 +72,4 @@ timestamp_of text = do
   clock_text ← past_byte 32 date.1
   clock ← clock_of clock_text
   fraction ← fraction_of clock.1
-  Some (pos 86400000 *ℤ date.0 +ℤ pos (clock.0 + fraction))
+  Some (pos a_day *ℤ date.0 +ℤ pos (clock.0 + fraction))

@@ -6,6 +6,13 @@ use Rattle.jiff_core.specs.Calendar.{IsCivilDate, days_from_civil}
 use Rattle.td_times.specs.declared.fault.TimeFault.{TimeFault}
 use Rattle.td_times.specs.declared.fault.TimeFault.TheVariants.{BadTime, NoMemory}
 
+-- the milliseconds of a second and of a day
+abbrev pub a_second : ℕ
+a_second = 1000
+
+abbrev pub a_day : ℕ
+a_day = 86400000
+
 -- the digits of the parts; those of the fraction may be missing
 pub record Stamp : Type 0 where
   pub year : List ℕ
@@ -58,11 +65,11 @@ filled ds = ds ++ replicate (3 - length ds) 48
 
 -- the milliseconds of the day
 abbrev pub day_milliseconds : Stamp → ℕ
-day_milliseconds s = ((value s.hour * 60 + value s.minute) * 60 + value s.second) * 1000 + value (filled s.fraction)
+day_milliseconds s = ((value s.hour * 60 + value s.minute) * 60 + value s.second) * a_second + value (filled s.fraction)
 
 -- the milliseconds since 1970, which are negative before it
 abbrev pub milliseconds : Stamp → ℤ
-milliseconds s = pos 86400000 *ℤ days_from_civil (pos (value s.year)) (value s.month) (value s.day) +ℤ pos
+milliseconds s = pos a_day *ℤ days_from_civil (pos (value s.year)) (value s.month) (value s.day) +ℤ pos
     (day_milliseconds s)
 
 -- the text is a timestamp's, which says this number

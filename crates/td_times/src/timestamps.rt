@@ -5,7 +5,7 @@ ghost use Rattle.std.specs.List.{list_all};
 ghost use Rattle.std.specs.Option.{option_map};
 ghost use Rattle.std.specs.Result.{result_ok};
 ghost use Rattle.jiff_core.specs.Calendar.{IsEpochDay};
-ghost use Rattle.td_times.specs.Times.{SaysTime};
+ghost use Rattle.td_times.specs.Times.{a_second, SaysTime};
 ghost use Rattle.td_times.specs.Stamps.{number_of, digits_at, past_byte, day_number_of, date_of, second_of, clock_of, fraction_of, timestamp_of};
 
 use crate::fault::TimeFault;
@@ -136,7 +136,7 @@ fn clock(text: &[u8]) -> Option<(u32, &[u8])>
 #[tactic(auto, unfolding(crate::specs::Stamps::fraction_of))]
 fn fraction(text: &[u8]) -> Option<u32>
     ensures value { result ≡ fraction_of text.now }
-    ensures bound { IfSome result (λ n. n < 1000) }
+    ensures bound { IfSome result (λ n. n < a_second) }
 {
     match text {
         [] => Some(0),

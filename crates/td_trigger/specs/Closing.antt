@@ -13,7 +13,8 @@ is_followed None t = false
 is_followed (Some next) t = int_le next t
 
 -- a window with this end, where this is the start of the next one of its group: an interval [k, e) is closed where e is
--- at most the horizon, a session [a, b] where b and the tolerance are less than it; a partition without windows never is
+-- at most the horizon, a session [a, b] where b and the tolerance are less than it; a partition without windows never
+-- is
 abbrev pub is_closed : WindowDef → ℤ → Option ℤ → ℕ → ℕ → Bool
 is_closed Whole end next latest watermark = false
 is_closed (Interval len offset slide) end next latest watermark = int_le end (horizon latest watermark)

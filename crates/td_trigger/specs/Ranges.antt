@@ -35,7 +35,8 @@ in_order (r ∷ rest) = put_in_order r (in_order rest)
 -- ranges in order, joined with one that goes before them: a range joins it where it begins at most so far above its end
 abbrev pub joined_to : ℕ → Range → List Range → List Range
 joined_to gap r [] = r ∷ []
-joined_to gap r (s ∷ rest) = if nat_le s.lo (r.hi + gap) then joined_to gap (hull r s) rest else r ∷ joined_to gap s rest
+joined_to gap r (s ∷ rest) =
+    if nat_le s.lo (r.hi + gap) then joined_to gap (hull r s) rest else r ∷ joined_to gap s rest
 
 abbrev pub joined : ℕ → List Range → List Range
 joined gap [] = []

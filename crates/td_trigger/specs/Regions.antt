@@ -47,23 +47,27 @@ pub record AreInOrder (old : List Range) : Type 0 where
 abbrev pub above_last : ℕ → ℕ → ℕ → ℕ
 above_last p s t = (t + s - p % s) % s
 
--- an interval: from the least start k with k + len > lo, or 0 where that is negative, to k + len - 1 of the greatest start
--- k at most hi; starts are offset + j * slide for whole j, so windows end at offset + len + j * slide
+-- an interval: from the least start k with k + len > lo, or 0 where that is negative, to k + len - 1 of the greatest
+-- start k at most hi; starts are offset + j * slide for whole j, so windows end at offset + len + j * slide
 abbrev pub widened_interval : ℕ → ℕ → ℕ → Range → Range
 widened_interval len offset slide r = record {
   lo = r.lo + slide - above_last (offset + len) slide r.lo - len;
   hi = r.hi + (len - 1) - above_last offset slide r.hi;
 }
 
--- in the words of windows: the range begins where the first of the windows that end above its lower end starts, or at 0 ..
+-- in the words of windows: the range begins where the first of the windows that end above its lower end starts, or at 0
+-- ..
 abbrev pub BeginsAtFirstWindow : ℕ → ℕ → ℕ → Range → Type 0
 BeginsAtFirstWindow len offset slide r =
-    (k : ℤ) × IsStart offset slide k × (pos r.lo <ℤ (k +ℤ pos len)) × ((j : ℤ) → IsStart offset slide j → pos r.lo <ℤ (j +ℤ pos len) → k ≤ℤ j) × ((widened_interval len offset slide r).lo ≡ from_0 k)
+    (k : ℤ) × IsStart offset slide k × (pos r.lo <ℤ (k +ℤ pos len))
+    × ((j : ℤ) → IsStart offset slide j → pos r.lo <ℤ (j +ℤ pos len) → k ≤ℤ j)
+    × ((widened_interval len offset slide r).lo ≡ from_0 k)
 
 -- .. and ends where the last of the windows that start at its upper end or below ends
 abbrev pub EndsWithLastWindow : ℕ → ℕ → ℕ → Range → Type 0
 EndsWithLastWindow len offset slide r =
-    (k : ℤ) × IsStart offset slide k × (k ≤ℤ pos r.hi) × ((j : ℤ) → IsStart offset slide j → j ≤ℤ pos r.hi → j ≤ℤ k) × (pos ((widened_interval len offset slide r).hi + 1) ≡ k +ℤ pos len)
+    (k : ℤ) × IsStart offset slide k × (k ≤ℤ pos r.hi) × ((j : ℤ) → IsStart offset slide j → j ≤ℤ pos r.hi → j ≤ℤ k)
+    × (pos ((widened_interval len offset slide r).hi + 1) ≡ k +ℤ pos len)
 
 -- sessions: with each old window that lies at most the tolerance away from it
 abbrev pub widened_session : ℕ → List Range → Range → Range
@@ -75,11 +79,12 @@ first_of ws = take 1 ws
 abbrev pub last_of : List Range → List Range
 last_of ws = drop (length ws - 1) ws
 
--- the old state windows that a touched range takes in: the last that ends before it, those that meet it, and the first that
--- starts after it
+-- the old state windows that a touched range takes in: the last that ends before it, those that meet it, and the first
+-- that starts after it
 abbrev pub state_neighbours : List Range → Range → List Range
 state_neighbours old r =
-    last_of (filter (λ w. nat_lt w.hi r.lo) old) ++ filter (λ w. nat_le r.lo w.hi && nat_le w.lo r.hi) old ++ first_of (filter (λ w. nat_lt r.hi w.lo) old)
+    last_of (filter (λ w. nat_lt w.hi r.lo) old) ++ filter (λ w. nat_le r.lo w.hi && nat_le w.lo r.hi) old
+    ++ first_of (filter (λ w. nat_lt r.hi w.lo) old)
 
 abbrev pub all_time : Range
 all_time = record { lo = 0; hi = LAST_TIMESTAMP }
@@ -94,8 +99,8 @@ widened (Interval len offset slide) old r = widened_interval len offset slide r
 widened (Session column tol) old r = widened_session tol old r
 widened (State column) old r = widened_state old r
 
--- how far above the end of a range another may begin to be joined with it: ranges of intervals join where they overlap or
--- adjoin, those of sessions up to the tolerance, and those of state windows where they overlap
+-- how far above the end of a range another may begin to be joined with it: ranges of intervals join where they overlap
+-- or adjoin, those of sessions up to the tolerance, and those of state windows where they overlap
 abbrev pub join_gap : WindowDef → ℕ
 join_gap (Interval len offset slide) = 1
 join_gap (Session column tol) = tol

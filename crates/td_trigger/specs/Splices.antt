@@ -51,8 +51,10 @@ put_all_by_start [] vs = vs
 put_all_by_start (w ∷ ws) vs = put_by_start w (put_all_by_start ws vs)
 
 -- the windows that are kept, put in by their starts among those that are made
-abbrev pub spliced : {A : Type 0} → WindowDef → List Range → List (Window A) → (Range → List (Window A)) → List (Window A)
-spliced def regions old windows_in = put_all_by_start (kept (is_inside def) regions old) (made (is_inside def) regions windows_in)
+abbrev pub spliced : {A : Type 0} → WindowDef → List Range → List (Window A) → (Range → List (Window A))
+    → List (Window A)
+spliced def regions old windows_in =
+    put_all_by_start (kept (is_inside def) regions old) (made (is_inside def) regions windows_in)
 
 -- the regions of a change, by the windows before it
 abbrev pub regions_over : {A : Type 0} → WindowDef → List Range → List (Window A) → List Range
@@ -68,14 +70,27 @@ pub record IsChange {A : Type 0} (time : A → ℕ) (touched : List Range) (befo
 -- intervals: the splice of the windows before and of the windows of the rows in each region is the windows after
 abbrev pub IntervalsSplice : {A : Type 0} → (A → ℕ) → ℕ → ℕ → ℕ → Type 0
 IntervalsSplice {A} time len offset slide =
-    (touched : List Range) (before after : List A) (old : List (Window A)) (windows_in : Range → List (Window A)) → IsChange time touched before after → AreIntervalWindows time len offset slide before old → AllByRecursion (λ r. AreIntervalWindows time len offset slide (rows_in time r after) (windows_in r)) (regions_over (Interval len offset slide) touched old) → AreIntervalWindows time len offset slide after (spliced (Interval len offset slide) (regions_over (Interval len offset slide) touched old) old windows_in)
+    (touched : List Range) (before after : List A) (old : List (Window A)) (windows_in : Range → List (Window A))
+    → IsChange time touched before after → AreIntervalWindows time len offset slide before old
+    → AllByRecursion (λ r. AreIntervalWindows time len offset slide (rows_in time r after) (windows_in r))
+    (regions_over (Interval len offset slide) touched old)
+    → AreIntervalWindows time len offset slide after
+    (spliced (Interval len offset slide) (regions_over (Interval len offset slide) touched old) old windows_in)
 
 -- sessions: the same, of rows whose timestamps don't fall
 abbrev pub SessionsSplice : {A : Type 0} → (A → ℕ) → List ℕ → ℕ → Type 0
 SessionsSplice {A} time column tol =
-    (touched : List Range) (before after : List A) → IsChange time touched before after → IsNonDecreasingBy time before → IsNonDecreasingBy time after → session_windows time tol after ≡ spliced (Session column tol) (regions_over (Session column tol) touched (session_windows time tol before)) (session_windows time tol before) (λ r. session_windows time tol (rows_in time r after))
+    (touched : List Range) (before after : List A) → IsChange time touched before after → IsNonDecreasingBy time before
+    → IsNonDecreasingBy time after → session_windows time tol after
+    ≡ spliced (Session column tol) (regions_over (Session column tol) touched (session_windows time tol before))
+    (session_windows time tol before) (λ r. session_windows time tol (rows_in time r after))
 
 -- state windows: the same, of rows whose timestamps rise and lie in the time range
 abbrev pub StatesSplice : {A : Type 0} → (A → ℕ) → (A → Value) → List ℕ → Type 0
 StatesSplice {A} time state column =
-    (touched : List Range) (before after : List A) → IsChange time touched before after → IsStrictlyIncreasing (map time before) → IsStrictlyIncreasing (map time after) → All (λ row. time row ≤ LAST_TIMESTAMP) before → All (λ row. time row ≤ LAST_TIMESTAMP) after → state_windows time state after ≡ spliced (State column) (regions_over (State column) touched (state_windows time state before)) (state_windows time state before) (λ r. state_windows time state (rows_in time r after))
+    (touched : List Range) (before after : List A) → IsChange time touched before after
+    → IsStrictlyIncreasing (map time before) → IsStrictlyIncreasing (map time after)
+    → All (λ row. time row ≤ LAST_TIMESTAMP) before → All (λ row. time row ≤ LAST_TIMESTAMP) after
+    → state_windows time state after ≡ spliced (State column)
+    (regions_over (State column) touched (state_windows time state before)) (state_windows time state before)
+    (λ r. state_windows time state (rows_in time r after))

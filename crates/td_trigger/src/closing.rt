@@ -5,9 +5,9 @@ ghost use Rattle.td_trigger.specs.Closing.{horizon, is_closed, is_due};
 use td_model::WindowDef;
 use td_window::Span;
 
-/// Whether a window is closed, which it is where no row can be in it that the watermark still lets come. `next` is the start
-/// of the next window of its group, where there is one; `latest` is the greatest timestamp ever put to its source. All
-/// times are in milliseconds. A partition without windows is never closed.
+/// Whether a window is closed, which it is where no row can be in it that the watermark still lets come. `next` is the
+/// start of the next window of its group, where there is one; `latest` is the greatest timestamp ever put to its
+/// source. All times are in milliseconds. A partition without windows is never closed.
 pub fn closed(w: Span, next: Option<i64>, latest: u64, window: &WindowDef, watermark: u64) -> bool
     ensures { result ≡ is_closed window.now w.end next latest watermark }
 {

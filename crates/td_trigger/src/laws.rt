@@ -28,5 +28,6 @@ pub fn state_windows_splice()
 /// the last window that does so ends.
 pub fn intervals_meet_their_windows()
     ensures first { (len offset slide : ℕ) (r : Range) → 0 < slide → BeginsAtFirstWindow len offset slide r }
-    ensures last { (len offset slide : ℕ) (r : Range) → 0 < slide → slide ≤ len → EndsWithLastWindow len offset slide r }
+    ensures last { (len offset slide : ℕ) (r : Range) → 0 < slide → slide ≤ len
+        → EndsWithLastWindow len offset slide r }
 {}

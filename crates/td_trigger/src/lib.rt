@@ -1,10 +1,10 @@
 //! [answers] When a window of a stream is closed or due, and which ranges of timestamps must be computed anew after a
 //! change.
 //!
-//! [`closed`] and [`due`] say whether a stream's trigger shows a window. [`region`] widens the ranges in which rows came,
-//! went or changed to those that must be computed anew, for intervals, sessions and state windows. It is promised that
-//! they answer exactly as `specs/Closing` and `specs/Regions` define, and that nothing overflows; want of memory is the
-//! only way to fail.
+//! [`closed`] and [`due`] say whether a stream's trigger shows a window. [`region`] widens the ranges in which rows
+//! came, went or changed to those that must be computed anew, for intervals, sessions and state windows. It is promised
+//! that they answer exactly as `specs/Closing` and `specs/Regions` define, and that nothing overflows; want of memory
+//! is the only way to fail.
 //!
 //! The laws ([`interval_windows_splice`], [`sessions_splice`], [`state_windows_splice`]) say what regions are good for:
 //! where no row outside the touched ranges has changed, the windows now are the old windows that aren't wholly inside a

@@ -12,9 +12,9 @@ use td_limits::LONGEST_DURATION;
 use td_model::WindowDef;
 use td_window::Span;
 
-/// The ranges of timestamps that must be computed anew in a group, where rows in the touched ranges came, went or changed;
-/// `old` are the group's windows before that. The ranges rise and don't meet. It takes the logarithm of the number of old
-/// windows for each touched range, and sorts the ranges; intervals don't look at the old windows.
+/// The ranges of timestamps that must be computed anew in a group, where rows in the touched ranges came, went or
+/// changed; `old` are the group's windows before that. The ranges rise and don't meet. It takes the logarithm of the
+/// number of old windows for each touched range, and sorts the ranges; intervals don't look at the old windows.
 pub fn region(
     alloc: Global,
     touched: &[Range],
@@ -25,7 +25,8 @@ pub fn region(
     requires ordered { All IsRange touched.now }
     requires in_range { All (λ (r : Range). r.hi < 2 ^ 63) touched.now }
     requires old { AreInOrder (map (reach_of window.now) old.now) }
-    ensures region { IfOk result (λ ranges. ranges ≡ region touched.now (map (reach_of window.now) old.now) window.now) }
+    ensures region { IfOk result (λ ranges. ranges
+        ≡ region touched.now (map (reach_of window.now) old.now) window.now) }
     ensures ordered { IfOk result (AllByRecursion IsRange) }
     ensures apart { IfOk result (AreApart (join_gap window.now)) }
 {

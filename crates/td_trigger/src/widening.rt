@@ -49,8 +49,8 @@ pub(crate) fn widened_session(range: Range, old: &[Span], tol: u64) -> Range
     taking_in(range, old, first, past)
 }
 
-/// A touched range of state windows, with the old windows that meet it, and their neighbours on both sides. Where there is
-/// no old window it is the whole time range.
+/// A touched range of state windows, with the old windows that meet it, and their neighbours on both sides. Where there
+/// is no old window it is the whole time range.
 pub(crate) fn widened_state(range: Range, old: &[Span]) -> Range
     requires touched { range.hi < 2 ^ 63 }
     requires ordered { IsRange range }

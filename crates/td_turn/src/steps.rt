@@ -2,6 +2,7 @@
 ghost use Rattle.std.specs.Prelude.{◌≡◌, ◌≢◌, ◌+◌, ◌^◌, ◌<◌, ◌≤◌, [], ◌∷◌, length, Some, None};
 ghost use mathlib.Core.List.{IsPrefix};
 ghost use Rattle.td_turn.specs.declared.rule.Stage.TheVariants.{Idle, Waits};
+ghost use Rattle.td_turn.specs.declared.steps.TheConstants.{NO_TICKET};
 ghost use Rattle.td_turn.specs.Passes.{GoesOn, longer};
 ghost use Rattle.td_turn.specs.Views.{slot_at, at_stage, counted_view, kept_view, new_view, joined_view, told_view};
 ghost use Rattle.td_turn.specs.Rule.{TakesFor};
@@ -22,6 +23,9 @@ const TICKETS: usize = 1;
 /// The ticket that is served.
 const SERVING: usize = 2;
 
+/// The number that no ticket has: it follows that of the last one.
+const NO_TICKET: u64 = u64::MAX;
+
 /// How often a thread looks at the served ticket before it sleeps.
 const LOOKS: u32 = 64;
 
@@ -33,7 +37,7 @@ pub(crate) type TurnSeat<V: Turned> = Seat<Option<V>, View<V::Base, V::Entry>>;
 fn draw_at<V: Turned>(words: &Words<V>, seat: &mut TurnSeat<V>, next: u64) -> u64
     requires table { (seat.old.table_id ≡ words.now.table_id) × (words.now.table_id.words ≡ 3) }
     requires idle { (seat.old.me.0.stage ≡ Idle) × (0 < seat.old.me.0.parts) }
-    requires last { next ≢ 18446744073709551615 }
+    requires last { next ≢ NO_TICKET }
     ensures table { seat.new.table_id ≡ seat.old.table_id }
     ensures drawn { result ≡ next
         → (seat.new.me.0 ≡ at_stage (Waits next) seat.old.me.0) × (seat.new.me.1 ≡ seat.old.me.1) }
@@ -51,7 +55,7 @@ pub(crate) fn draw<V: Turned, R: Wait>(rt: &R, words: &Words<V>, seat: &mut Turn
 {
     let mut next = words.peek(TICKETS);
     for _ in rt.forever() {
-        if next == u64::MAX {
+        if next == NO_TICKET {
             words.park(rt, TICKETS, u32::MAX);
         } else {
             let found = draw_at(words, seat, next);
@@ -132,7 +136,8 @@ pub(crate) fn count<V: Turned>(
     requires room { V.first (V.base words.now.key.value) + length (V.list like.now.value) < 2 ^ 64 }
     ensures table { seat.new.table_id ≡ seat.old.table_id }
     ensures counted { seat.new.me.0 ≡ counted_view
-        (V.first (V.base words.now.key.value) + length seat.old.me.0.seen) entries (V.list like.now.value) seat.old.me.0 }
+        (V.first (V.base words.now.key.value) + length seat.old.me.0.seen) entries (V.list like.now.value)
+        seat.old.me.0 }
     ensures slot { seat.new.me.1 ≡ seat.old.me.1 }
 {
     let _ = like;

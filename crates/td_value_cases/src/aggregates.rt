@@ -1,12 +1,16 @@
 //! Aggregates of a column.
 ghost use Rattle.std.specs.Prelude.{◌≡◌, ◌<◌, ◌≤◌, length};
 ghost use Rattle.td_aggr.specs.Tallies.{IsSound};
+ghost use Rattle.td_value_cases.specs.declared.aggregates.TheConstants.{MOST_ROWS};
 
 use crate::lists::{number, push_cell, small};
 use std::alloc::Global;
 use td_aggr::{Aggr, Tally};
 use td_cases::{CaseFault, Out};
 use td_layer::{Func, Key, Seq, Value};
+
+/// A case has fewer rows.
+const MOST_ROWS: usize = 1000;
 
 /// A row: its timestamp in milliseconds, its table, and its value.
 type Row = (u64, u32, Option<i64>);
@@ -46,7 +50,7 @@ fn one(row: Row) -> Tally
 }
 
 fn tally(rows: &[Row]) -> Tally
-    requires { length rows.now < 1000 }
+    requires { length rows.now < MOST_ROWS }
     ensures sound { IsSound result }
     ensures rows { result.rows ≡ length rows.now }
     ensures count { result.count ≤ length rows.now }
@@ -85,7 +89,7 @@ fn shown(alloc: Global, tally: &Tally) -> Result<Seq<u8>, CaseFault>
 /// another.
 pub(crate) fn push_aggregates(out: &mut Out, alloc: Global, text: &str) -> Result<(), CaseFault> {
     let rows = rows_of(alloc, text)?;
-    if rows.len() >= 1000 {
+    if rows.len() >= MOST_ROWS {
         return Err(CaseFault::Unread);
     }
     let whole = shown(alloc, &tally(rows.as_slice()))?;
@@ -105,7 +109,7 @@ fn push_cut(
     at: usize,
     whole: &[u8],
 ) -> Result<(), CaseFault>
-    requires few { length rows.now < 1000 }
+    requires few { length rows.now < MOST_ROWS }
     requires inside { at < length rows.now }
 {
     let (front, back) = rows.split_at(at);

@@ -1,9 +1,9 @@
 //! [tests] Cases of values: each line of the input is a case, and its answer stands in the same line of the output.
 //!
 //! A case is a kind, a blank and a text. A line that is empty or begins with `#` is printed as it stands. The answers
-//! beside which the program's are compared were worked out from the definitions by hand. `lists`, `lanes`, `aggregates`,
-//! `windows` and `tags` have the kinds; each says what a case of it looks like. It stands on `td_layer`, `td_cols`,
-//! `td_aggr`, `td_window` and `td_tagidx`, whose calls it asks, and on `td_cases`.
+//! beside which the program's are compared were worked out from the definitions by hand. `lists`, `lanes`,
+//! `aggregates`, `windows` and `tags` have the kinds; each says what a case of it looks like. It stands on `td_layer`,
+//! `td_cols`, `td_aggr`, `td_window` and `td_tagidx`, whose calls it asks, and on `td_cases`.
 #![tactic(auto)]
 
 mod aggregates;

@@ -41,7 +41,8 @@ found_row columns t e = (e.0, row_cells columns t.1.name t.1.tags e.0.ts e.1.val
 
 -- the rows of a table of which all comparisons are true
 abbrev pub found_in : List Column → List Comparison → Rows → Numbered → Found
-found_in columns ps rows t = filter (λ (e : Key × List Cell). all_hold ps e.1) (map (found_row columns t) (rows_of t.0 rows))
+found_in columns ps rows t =
+    filter (λ (e : Key × List Cell). all_hold ps e.1) (map (found_row columns t) (rows_of t.0 rows))
 
 -- keys are ordered by timestamp, then by table
 abbrev pub time_cmp : Key → Key → Ordering
@@ -57,7 +58,9 @@ abbrev pub picked_of : List Column → List Comparison → List Numbered → Row
 picked_of columns ps tables rows = put_in_time [] (flat_map (found_in columns ps rows) tables)
 
 abbrev pub picked : Query → State → Found
-picked q s = picked_of (source_schema q.source s.catalog).columns (comparisons_of (source_schema q.source s.catalog) q.conds) (source_tables q.source s.catalog) s.rows
+picked q s =
+    picked_of (source_schema q.source s.catalog).columns (comparisons_of (source_schema q.source s.catalog) q.conds)
+    (source_tables q.source s.catalog) s.rows
 
 -- ---- what is shown
 
@@ -76,7 +79,9 @@ item_place s (item.Col name) = place_in s name
 item_place s _ = None
 
 abbrev pub shown_places : Bool → Schema → Query → List ℕ
-shown_places is_table s q = if q.star then places_from 1 (length (star_fields is_table s)) else filter_map (λ (i : Item). item_place s i.what) q.items
+shown_places is_table s q =
+    if q.star then places_from 1 (length (star_fields is_table s))
+    else filter_map (λ (i : Item). item_place s i.what) q.items
 
 abbrev pub shown : List ℕ → List Cell → List Cell
 shown places cells = map (λ place. unwrap_or (slice_get cells place) cell.Null) places

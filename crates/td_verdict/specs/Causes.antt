@@ -1,5 +1,5 @@
--- The one order of the causes of refusal. What a statement may be refused for is a list of causes in that order, each with
--- whether it applies; the first that applies is the cause.
+-- The one order of the causes of refusal. What a statement may be refused for is a list of causes in that order, each
+-- with whether it applies; the first that applies is the cause.
 use Rattle.std.specs.Prelude.{ℕ, Bool, true, false, List, [], ◌∷◌, Option, Some, None}
 use Rattle.td_model.specs.declared.report.Cause.{Cause}
 use Rattle.td_model.specs.declared.history.What.{What}

@@ -76,7 +76,8 @@ operand_of k l = operand_from (number_at k 0 l) (text_at k l)
 abbrev pub comparison_from : Cond → Option Column → Option ℕ → Option Comparison
 comparison_from c None place = None
 comparison_from c (Some column) None = None
-comparison_from c (Some column) (Some place) = Some (record { place = place; op = c.op; operand = operand_of column.kind c.lit })
+comparison_from c (Some column) (Some place) =
+    Some (record { place = place; op = c.op; operand = operand_of column.kind c.lit })
 
 -- a condition of a known name as a comparison of a row's cells
 abbrev pub comparison_of : Schema → Cond → Option Comparison

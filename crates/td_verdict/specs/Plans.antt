@@ -1,5 +1,5 @@
--- What a row query reads: the tables of its source that its conditions on tags leave, and the timestamps that its conditions
--- on the first column leave.
+-- What a row query reads: the tables of its source that its conditions on tags leave, and the timestamps that its
+-- conditions on the first column leave.
 use Rattle.std.specs.Prelude.{ℕ, ◌+◌, ◌-◌, ◌&&◌, min, max, ℤ, pos, negsuc, Bool, true, false, ◌==◌, nat_lt, if◌then◌else◌, List, [], ◌∷◌, map, filter, length, Option, is_some}
 use Rattle.std.specs.Option.{option_map_or}
 use Rattle.std.specs.Str.{bytes_eq}
@@ -52,8 +52,8 @@ is_in_source Other e = false
 abbrev pub source_tables : List ℕ → Catalog → List Numbered
 source_tables source c = filter (is_in_source (source_of source c)) (all_tables c)
 
--- whether a comparison is true of a table's name and tags, where it is of one of these: the name is at place 0, and the tags stand
--- behind the columns
+-- whether a comparison is true of a table's name and tags, where it is of one of these: the name is at place 0, and the
+-- tags stand behind the columns
 abbrev pub holds_of_table : ℕ → List ℕ → List Cell → Comparison → Bool
 holds_of_table columns name tags p =
     if p.place == 0 then cell_matches p.op (cell.Str name) p.operand
@@ -61,7 +61,8 @@ holds_of_table columns name tags p =
 
 abbrev pub all_hold_of_table : ℕ → List Comparison → List ℕ → List Cell → Bool
 all_hold_of_table columns [] name tags = true
-all_hold_of_table columns (p ∷ ps) name tags = if holds_of_table columns name tags p then all_hold_of_table columns ps name tags else false
+all_hold_of_table columns (p ∷ ps) name tags =
+    if holds_of_table columns name tags p then all_hold_of_table columns ps name tags else false
 
 -- whether a table is read: a source's own table is, and a subtable of it that the comparisons leave
 abbrev pub is_read : Source → ℕ → List Comparison → Numbered → Bool
@@ -128,12 +129,15 @@ plan_over q s tables ps target = record {
 }
 
 abbrev pub plan_from : Query → Source → Schema → Catalog → Plan
-plan_from q source s c = plan_over q s (planned source (length s.columns) (comparisons_of s q.conds) c) (comparisons_of s q.conds) (target_named q.source c)
+plan_from q source s c =
+    plan_over q s (planned source (length s.columns) (comparisons_of s q.conds) c) (comparisons_of s q.conds)
+    (target_named q.source c)
 
 abbrev pub plan_of : Query → Catalog → Plan
 plan_of q c = plan_from q (source_of q.source c) (source_schema q.source c) c
 
--- whether a plan is of a table, and not of a supertable: names share one space, so it is where its first table has the source's name
+-- whether a plan is of a table, and not of a supertable: names share one space, so it is where its first table has the
+-- source's name
 abbrev pub is_of_table : List (List ℕ) → List ℕ → Bool
 is_of_table [] source = false
 is_of_table (name ∷ names) source = bytes_eq name source

@@ -78,7 +78,9 @@ is_order_unknown s (order.Asc name) = not (is_window_start name) && is_unknown s
 is_order_unknown s (order.Desc name) = not (is_window_start name) && is_unknown s name
 
 abbrev pub has_unknown : Schema → Query → Bool
-has_unknown s q = list_any (λ (i : Item). is_item_unknown s i.what) q.items || list_any (λ (c : Cond). is_part_unknown s c.of) q.conds || is_order_unknown s q.order
+has_unknown s q =
+    list_any (λ (i : Item). is_item_unknown s i.what) q.items || list_any (λ (c : Cond). is_part_unknown s c.of) q.conds
+    || is_order_unknown s q.order
 
 -- a condition's literal doesn't suit its column or tag
 abbrev pub mismatch_at : Option Column → Cond → Option Cause

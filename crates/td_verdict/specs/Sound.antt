@@ -61,7 +61,8 @@ is_named_of k (Some v) = is_value_of k v
 -- a put into a table that is there: one cell a column, each not named or in its kind's range
 pub record IsPut (c : Catalog) (p : Put) : Type 0 where
   pub key : IsKey c p.key
-  pub cells : AllZip (λ (k : Column) (v : Option Value). is_named_of k.kind v ≡ true) (value_columns p.key.table c) p.cells
+  pub cells : AllZip (λ (k : Column) (v : Option Value). is_named_of k.kind v ≡ true)
+      (value_columns p.key.table c) p.cells
 
 -- timestamps to remove from a table that is there
 pub record IsCut (c : Catalog) (table lo hi : ℕ) : Type 0 where
@@ -78,7 +79,8 @@ IsFromEdge edge w = ⊤
 
 -- ---- states
 
--- the catalog is valid, and each row is one of a table that is there, with a value for each column, and not before the edge
+-- the catalog is valid, and each row is one of a table that is there, with a value for each column, and not before the
+-- edge
 pub record IsSound (s : State) : Type 0 where
   pub catalog : IsValid s.catalog
   pub rows : All (IsRow s.catalog) s.rows

@@ -17,8 +17,8 @@ use Rattle.td_model.specs.Catalog.{Catalog}
 use Rattle.td_verdict.specs.Causes.{when, first_cause, accepted_or}
 use Rattle.td_verdict.specs.Names.{is_taken, is_target, is_stream}
 
--- the causes of a query over its source, each where it applies: of its names, its literals, its parts together, its window,
--- and its LIMIT
+-- the causes of a query over its source, each where it applies: of its names, its literals, its parts together, its
+-- window, and its LIMIT
 pub record OfQuery : Type 0 where
   pub unknown : Option Cause
   pub mismatch : Option Cause

@@ -1,5 +1,5 @@
--- What is true of each catalog that writes make: the names of tables, supertables and targets are apart, each schema is well
--- formed, and a subtable has a cell for each tag of its supertable.
+-- What is true of each catalog that writes make: the names of tables, supertables and targets are apart, each schema is
+-- well formed, and a subtable has a cell for each tag of its supertable.
 use Rattle.std.specs.Prelude.{◌≡◌, ◌≤◌, ◌+◌, ℕ, Bool, true, false, not, ◌&&◌, nat_le, List, [], ◌++◌, map, length, All, Option, Some, None}
 use Rattle.std.specs.List.{AllZip, list_all}
 use Rattle.std.specs.Option.{option_map_or}
@@ -29,7 +29,8 @@ suits_kind k (cell.Str text) = option_map_or (λ width. nat_le (length text) wid
 abbrev pub AreTags : List Column → List Cell → Type 0
 AreTags tags cells = AllZip (λ (t : Column) (a : Cell). suits_kind t.kind a ≡ true) tags cells
 
--- the columns and the tags of a table: the first column is a TIMESTAMP, no name stands twice, and there are not too many
+-- the columns and the tags of a table: the first column is a TIMESTAMP, no name stands twice, and there are not too
+-- many
 pub record IsSchema (columns tags : List Column) : Type 0 where
   pub time : lacks_time columns ≡ false
   pub apart : have_one_name columns tags ≡ false
@@ -40,14 +41,17 @@ pub record IsSchema (columns tags : List Column) : Type 0 where
 -- a plain table has columns of its own and no tags; a subtable has those of a supertable that is there
 abbrev pub IsTableBy : Catalog → TableDef → Option ℕ → Type 0
 IsTableBy c t None = IsSchema t.columns [] × (t.tags ≡ [])
-IsTableBy c t (Some stable) = (1 ≤ stable) × (stable ≤ length c.stables) × AreTags (schema_or_none (stable_at stable c)).tags t.tags
+IsTableBy c t (Some stable) =
+    (1 ≤ stable) × (stable ≤ length c.stables) × AreTags (schema_or_none (stable_at stable c)).tags t.tags
 
 abbrev pub IsTable : Catalog → TableDef → Type 0
 IsTable c t = IsTableBy c t t.parent
 
 -- the names of tables, of supertables and of the targets of streams
 abbrev pub all_names : Catalog → List (List ℕ)
-all_names c = map (λ (t : TableDef). t.name) c.tables ++ (map (λ (s : StableDef). s.name) c.stables ++ map (λ (e : StreamEntry). e.def.target) c.streams)
+all_names c =
+    map (λ (t : TableDef). t.name) c.tables ++
+    (map (λ (s : StableDef). s.name) c.stables ++ map (λ (e : StreamEntry). e.def.target) c.streams)
 
 pub record IsValid (c : Catalog) : Type 0 where
   pub names : stands_twice (all_names c) ≡ false

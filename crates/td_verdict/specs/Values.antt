@@ -27,8 +27,8 @@ width_of _ = None
 abbrev pub is_text : Kind → Bool
 is_text k = is_some (width_of k)
 
--- The number that a literal says. A truth value says 1 or 0 at BOOL alone, NOW the moment at TIMESTAMP alone, a text the
--- milliseconds of a timestamp at TIMESTAMP alone.
+-- The number that a literal says. A truth value says 1 or 0 at BOOL alone, NOW the moment at TIMESTAMP alone, a text
+-- the milliseconds of a timestamp at TIMESTAMP alone.
 abbrev pub number_at : Kind → ℕ → Lit → Option ℤ
 number_at k moment lit.Null = None
 number_at k moment lit.True = if is_truth k then Some (pos 1) else None

@@ -1,5 +1,5 @@
--- What a write meets in a catalog, at a retention edge and a moment in milliseconds since 1970. Of each form its causes stand
--- in their one order, and within one cause its places in the order of the text; then what it is accepted as.
+-- What a write meets in a catalog, at a retention edge and a moment in milliseconds since 1970. Of each form its causes
+-- stand in their one order, and within one cause its places in the order of the text; then what it is accepted as.
 use Rattle.std.specs.Prelude.{ℕ, ◌+◌, ◌-◌, ◌*◌, ◌/◌, max, min, ℤ, pos, negsuc, int_lt, Bool, false, not, ◌&&◌, ◌||◌, ◌==◌, nat_lt, nat_le, if◌then◌else◌, List, [], ◌∷◌, ◌++◌, map, length, drop, Option, Some, None, is_none, position, slice_get}
 use Rattle.std.specs.Int.{int_min, int_max}
 use Rattle.std.specs.List.{list_any, filter_map, find, zip}
@@ -65,7 +65,9 @@ definition_cause name columns tags c = first_cause (
 
 abbrev pub make_stable_verdict : List ℕ → List Column → Option (List Column) → Catalog → Verdict
 make_stable_verdict name columns None c = Refuse cause.NeedsTags
-make_stable_verdict name columns (Some tags) c = accepted_or (definition_cause name columns tags c) (what.MakeStable name (record { columns = columns; tags = tags })) 0
+make_stable_verdict name columns (Some tags) c =
+    accepted_or (definition_cause name columns tags c)
+    (what.MakeStable name (record { columns = columns; tags = tags })) 0
 
 abbrev pub make_table_verdict : List ℕ → List Column → Catalog → Verdict
 make_table_verdict name columns c = accepted_or (definition_cause name columns [] c) (what.MakeTable name columns) 0
@@ -76,7 +78,8 @@ make_table_verdict name columns c = accepted_or (definition_cause name columns [
 abbrev pub is_mismatch : ℕ → Column × Lit → Bool
 is_mismatch moment p = not (suits p.0.kind moment p.1)
 
--- A literal is outside the range of its column. Where the columns of a table are given, NULL is outside that of the first.
+-- A literal is outside the range of its column. Where the columns of a table are given, NULL is outside that of the
+-- first.
 abbrev pub is_outside : List Column → ℕ → Column × Lit → Bool
 is_outside table moment p = is_first table p.0.name && is_null p.1 || not (fits p.0.kind moment p.1)
 
@@ -119,10 +122,13 @@ make_sub_cause name stable tags lits moment c = first_cause (
     ∷ [])
 
 abbrev pub make_sub_in : List ℕ → List ℕ → List Column → List Lit → ℕ → Catalog → Verdict
-make_sub_in name stable tags lits moment c = accepted_or (make_sub_cause name stable tags lits moment c) (what.MakeSub name (number_or_none (stable_named stable c)) (tag_cells moment tags lits)) 0
+make_sub_in name stable tags lits moment c =
+    accepted_or (make_sub_cause name stable tags lits moment c)
+    (what.MakeSub name (number_or_none (stable_named stable c)) (tag_cells moment tags lits)) 0
 
 abbrev pub make_sub_verdict : List ℕ → List ℕ → List Lit → ℕ → Catalog → Verdict
-make_sub_verdict name stable lits moment c = make_sub_in name stable (stable_schema (stable_named stable c) c).tags lits moment c
+make_sub_verdict name stable lits moment c =
+    make_sub_in name stable (stable_schema (stable_named stable c) c).tags lits moment c
 
 -- ---- INSERT
 
@@ -170,10 +176,15 @@ abbrev pub time_from : ℤ → ℕ
 time_from (pos n) = min n LAST_TIMESTAMP
 time_from (negsuc n) = 0
 
--- A group as a put into a table: each column but the first has its literal's value, and one that isn't chosen isn't named.
+-- A group as a put into a table: each column but the first has its literal's value, and one that isn't chosen isn't
+-- named.
 abbrev pub put_of : ℕ → List Column → List Column → ℕ → List Lit → Put
 put_of table columns places moment group = record {
-  key = record { table = table; ts = time_from (unwrap_or (time_at moment group (first_place columns places)) (pos 0)) };
+  key = record {
+    table = table;
+    ts = time_from
+        (unwrap_or (time_at moment group (first_place columns places)) (pos 0));
+  };
   cells = map (λ c. cell_at moment group c.kind (place_of places c.name)) (drop 1 columns);
 }
 
@@ -197,7 +208,8 @@ list_cause columns names = first_cause (
 abbrev pub rows_cause : List Column → List Column → List (List Lit) → ℕ → ℕ → Option Cause
 rows_cause columns places groups edge moment = first_cause (
     when (nat_lt INSERT_ROWS (length groups)) (cause.TooMany many.Rows INSERT_ROWS)
-    ∷ when (list_any (λ group. is_before edge (time_at moment group (first_place columns places))) groups) (cause.BeforeEdge edge)
+    ∷ when (list_any (λ group. is_before edge (time_at moment group (first_place columns places))) groups)
+    (cause.BeforeEdge edge)
     ∷ [])
 
 -- of the groups
@@ -210,7 +222,9 @@ groups_cause columns places groups edge moment = first_cause (
     ∷ [])
 
 abbrev pub groups_verdict : ℕ → List Column → List Column → List (List Lit) → ℕ → ℕ → Verdict
-groups_verdict table columns places groups edge moment = accepted_or (groups_cause columns places groups edge moment) (what.Put (map (put_of table columns places moment) groups)) (length groups)
+groups_verdict table columns places groups edge moment =
+    accepted_or (groups_cause columns places groups edge moment)
+    (what.Put (map (put_of table columns places moment) groups)) (length groups)
 
 abbrev pub refused_or : Option Cause → Verdict → Verdict
 refused_or None verdict = verdict
@@ -218,10 +232,12 @@ refused_or (Some cause) verdict = Refuse cause
 
 abbrev pub insert_in : List ℕ → List Column → Option (List (List ℕ)) → List (List Lit) → ℕ → ℕ → Catalog → Verdict
 insert_in table columns names groups edge moment c =
-    refused_or (first_cause (written_cause table c ∷ list_cause columns names ∷ [])) (groups_verdict (number_or_none (table_named table c)) columns (chosen columns names) groups edge moment)
+    refused_or (first_cause (written_cause table c ∷ list_cause columns names ∷ []))
+    (groups_verdict (number_or_none (table_named table c)) columns (chosen columns names) groups edge moment)
 
 abbrev pub insert_verdict : List ℕ → Option (List (List ℕ)) → List (List Lit) → ℕ → ℕ → Catalog → Verdict
-insert_verdict table names groups edge moment c = insert_in table (table_schema (table_named table c) c).columns names groups edge moment c
+insert_verdict table names groups edge moment c =
+    insert_in table (table_schema (table_named table c) c).columns names groups edge moment c
 
 -- ---- DELETE
 
@@ -250,10 +266,12 @@ cut_of table lo hi = cut_between table (int_max lo (pos 0)) (int_min hi (pos LAS
 
 abbrev pub delete_in : List ℕ → List Column → List ℕ → Lit → Lit → ℕ → Catalog → Verdict
 delete_in table columns column lo hi moment c =
-    accepted_or (delete_cause table columns column lo hi moment c) (cut_of (number_or_none (table_named table c)) (bound_of moment lo) (bound_of moment hi)) 0
+    accepted_or (delete_cause table columns column lo hi moment c)
+    (cut_of (number_or_none (table_named table c)) (bound_of moment lo) (bound_of moment hi)) 0
 
 abbrev pub delete_verdict : List ℕ → List ℕ → Lit → Lit → ℕ → Catalog → Verdict
-delete_verdict table column lo hi moment c = delete_in table (table_schema (table_named table c) c).columns column lo hi moment c
+delete_verdict table column lo hi moment c =
+    delete_in table (table_schema (table_named table c) c).columns column lo hi moment c
 
 -- ---- TRIM, DROP STREAM
 
@@ -262,11 +280,14 @@ abbrev pub trim_verdict : ℕ → ℕ → Verdict
 trim_verdict edge moment = accepted_or None (what.Edge (max edge ((moment - KEEP) / DAY_RANGE))) 0
 
 abbrev pub drop_stream_verdict : List ℕ → Catalog → Verdict
-drop_stream_verdict name c = accepted_or (when (not (is_stream name c)) cause.UnknownStream) (what.DropStream (number_or_none (stream_named name c))) 0
+drop_stream_verdict name c =
+    accepted_or (when (not (is_stream name c)) cause.UnknownStream)
+    (what.DropStream (number_or_none (stream_named name c))) 0
 
 -- ---- all
 
--- What a write that is built meets. CREATE STREAM isn't built: what it meets beside the causes of its query stands in `Streams`.
+-- What a write that is built meets. CREATE STREAM isn't built: what it meets beside the causes of its query stands in
+-- `Streams`.
 abbrev pub write_verdict : Stmt → Catalog → ℕ → ℕ → Verdict
 write_verdict (stmt.MakeStable name columns tags) c edge moment = make_stable_verdict name columns tags c
 write_verdict (stmt.MakeTable name columns) c edge moment = make_table_verdict name columns c

@@ -49,8 +49,8 @@ record_bytes i = item_bytes i ++ 0 ∷ []
 abbrev pub next_gate : ℕ → LogItem → ℕ
 next_gate at i = at + 1 + length (item_bytes i)
 
--- a log with an item appended: from the place of the gate on there stand an open gate, the item and a closed gate, over what
--- was there, and all of it is stable
+-- a log with an item appended: from the place of the gate on there stand an open gate, the item and a closed gate, over
+-- what was there, and all of it is stable
 abbrev pub appended : ℕ → LogItem → Log → Log
 appended at i log = after_sync (after_write at (1 ∷ record_bytes i) log)
 
@@ -78,21 +78,24 @@ LeavesEither first items at i log = (bytes : List ℕ) → IsLeft log bytes → 
 
 -- the same of a log that is stable, as after a crash
 abbrev pub SettlesEither : ℕ → List LogItem → ℕ → LogItem → Log → Type 0
-SettlesEither first items at i log = IsSettled first items at log ⊎ IsSettled first (items ++ i ∷ []) (next_gate at i) log
+SettlesEither first items at i log =
+    IsSettled first items at log ⊎ IsSettled first (items ++ i ∷ []) (next_gate at i) log
 
--- An item was appended to the log of a number, whose closed gate stood at this place. If the item continues the log, the log
--- now has it at its end, and all of it is stable.
+-- An item was appended to the log of a number, whose closed gate stood at this place. If the item continues the log,
+-- the log now has it at its end, and all of it is stable.
 pub record Appends (n at : ℕ) (i : LogItem) (old new : Option Image) : Type 0 where
   pub image : Becomes (with_log n (appended at i)) old new
-  pub log : (first : ℕ) (items : List LogItem) → Continues first items i → LogSays old n (λ log. LogAt first items at log.bytes)
+  pub log : (first : ℕ) (items : List LogItem) → Continues first items i
+      → LogSays old n (λ log. LogAt first items at log.bytes)
       → LogSays new n (IsSettled first (items ++ i ∷ []) (next_gate at i))
 
--- An append of an item to the log of a number failed, whose closed gate stood at this place. If the item continues the log, a
--- read now gives the log of its items, or of these and the item; and where all of it was stable, a crash leaves one of these
--- two.
+-- An append of an item to the log of a number failed, whose closed gate stood at this place. If the item continues the
+-- log, a read now gives the log of its items, or of these and the item; and where all of it was stable, a crash leaves
+-- one of these two.
 pub record Fails (n at : ℕ) (i : LogItem) (old new : Option Image) : Type 0 where
   pub rest : Along (OnlyLog n) old new
-  pub read : (first : ℕ) (items : List LogItem) → Continues first items i → LogSays old n (λ log. LogAt first items at log.bytes)
+  pub read : (first : ℕ) (items : List LogItem) → Continues first items i
+      → LogSays old n (λ log. LogAt first items at log.bytes)
       → LogSays new n (λ log. IsEither first items at i log.bytes)
   pub crash : (first : ℕ) (items : List LogItem) → Continues first items i → LogSays old n (IsSettled first items at)
       → LogSays new n (LeavesEither first items at i)

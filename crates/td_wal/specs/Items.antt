@@ -25,7 +25,8 @@ ended more rest (Err left) = Err (left + more)
 -- a field in a part of so many bytes, which it fills; where there are fewer, its first byte is at fault
 abbrev pub enclosed : {A : Type 0} → ℕ → Field A → Field A
 enclosed n field = record {
-  read = λ bytes. (if nat_lt (length bytes) n then Err (length bytes) else ended (length bytes - n) (drop n bytes) (field.read (take n bytes)));
+  read = λ bytes. (if nat_lt (length bytes) n then Err (length bytes)
+      else ended (length bytes - n) (drop n bytes) (field.read (take n bytes)));
   spelled = field.spelled;
   fits = λ x. field.fits x && (length (field.spelled x) == n);
 }
@@ -74,11 +75,13 @@ body_form version moment size kind =
 
 -- a kind, 1 or 2, and a body of that kind
 unfoldable pub body : ℕ → ℕ → ℕ → Field LogBody
-body version moment size = tagged (checked (number w8) (λ kind. nat_le 1 kind && nat_le kind 2)) body_kind (body_form version moment size)
+body version moment size =
+    tagged (checked (number w8) (λ kind. nat_le 1 kind && nat_le kind 2)) body_kind (body_form version moment size)
 
 unfoldable pub body_bytes : LogBody → List ℕ
 body_bytes (bodies.Text t) = t
-body_bytes (bodies.Step stream upto moment delta) = (step 0 0).spelled ((stream, (upto, moment)), (delta.removed, delta.added))
+body_bytes (bodies.Step stream upto moment delta) =
+    (step 0 0).spelled ((stream, (upto, moment)), (delta.removed, delta.added))
 
 -- ---- items
 
@@ -95,10 +98,11 @@ moment_field least = checked (number w64) (λ m. nat_le least m && nat_le m LAST
 abbrev pub session_field : Field ℕ
 session_field = checked (number w32) (λ s. nat_le s SESSIONS)
 
--- An item has this version, which isn't beyond the last; a moment from this one on, up to the last; a session, or 0 for none;
--- and an ordinal.
+-- An item has this version, which isn't beyond the last; a moment from this one on, up to the last; a session, or 0 for
+-- none; and an ordinal.
 unfoldable pub item_head : ℕ → ℕ → Field ItemHead
-item_head version least = pair (number w32) (pair (version_field version) (pair (moment_field least) (pair session_field (number w32))))
+item_head version least =
+    pair (number w32) (pair (version_field version) (pair (moment_field least) (pair session_field (number w32))))
 
 abbrev pub item_of : ItemHead × LogBody → LogItem
 item_of p = record { version = p.0.1.0; moment = p.0.1.1.0; session = p.0.1.1.1.0; ordinal = p.0.1.1.1.1; body = p.1 }
@@ -116,5 +120,7 @@ item version least = made (followed (item_head version least) (λ h. body h.1.0 
 -- The bytes of an item. They don't depend on what stands before it.
 unfoldable pub item_bytes : LogItem → List ℕ
 item_bytes i =
-    (to_le_bytes w32 (length (body_bytes i.body)) ++ (to_le_bytes w64 i.version ++ (to_le_bytes w64 i.moment ++ (to_le_bytes w32 i.session ++ to_le_bytes w32 i.ordinal))))
+    (to_le_bytes w32 (length (body_bytes i.body))
+    ++ (to_le_bytes w64 i.version ++ (to_le_bytes w64 i.moment
+    ++ (to_le_bytes w32 i.session ++ to_le_bytes w32 i.ordinal))))
     ++ (to_le_bytes w8 (body_kind i.body) ++ body_bytes i.body)

@@ -10,13 +10,14 @@ abbrev pub opened : List LogItem → List ℕ
 opened [] = []
 opened (i ∷ is) = 1 ∷ (item_bytes i ++ opened is)
 
--- the versions rise by one from this one on, the moments don't fall from this one on, and each item keeps its other rules
+-- the versions rise by one from this one on, the moments don't fall from this one on, and each item keeps its other
+-- rules
 abbrev pub items_fit : ℕ → ℕ → List LogItem → Bool
 items_fit version least [] = true
 items_fit version least (i ∷ is) = (item version least).fits i && items_fit (version + 1) i.moment is
 
--- The bytes are a log of these items from a version on: an open gate before each of them, and then a closed gate, which is
--- any byte but 1. Whatever stands behind it means nothing.
+-- The bytes are a log of these items from a version on: an open gate before each of them, and then a closed gate, which
+-- is any byte but 1. Whatever stands behind it means nothing.
 pub record IsLog (first : ℕ) (bytes : List ℕ) (items : List LogItem) : Type 0 where
   pub gate : ℕ
   pub rest : List ℕ
@@ -48,8 +49,8 @@ pub record BreaksAt (first : ℕ) (bytes : List ℕ) (items : List LogItem) (at 
   pub breaks : Breaks (first + length items) (last_moment 0 items) rest left
   pub place : at ≡ length bytes - left
 
--- What is answered of bytes as a log from a version on: its items, or the place where its form breaks with the items before.
--- Want of memory says nothing.
+-- What is answered of bytes as a log from a version on: its items, or the place where its form breaks with the items
+-- before. Want of memory says nothing.
 abbrev pub Answers : ℕ → List ℕ → Result (List LogItem) LogFault → Type 0
 Answers first bytes (Ok items) = IsLog first bytes items
 Answers first bytes (Err (faults.NotThis at items)) = BreaksAt first bytes items at

@@ -110,12 +110,12 @@ fn record_of(alloc: Global, item: &LogItem) -> Result<Name, NoMem>
     }
 }
 
-/// Adds an item to a log whose closed gate stands at the place `at`, and answers the place of its next gate. The item and a
-/// closed gate are written behind the gate and synced; then the gate is opened and synced.
+/// Adds an item to a log whose closed gate stands at the place `at`, and answers the place of its next gate. The item
+/// and a closed gate are written behind the gate and synced; then the gate is opened and synced.
 ///
-/// After `Ok` the log has the item at its end, and all of it is stable. `StoreFault` comes only where the store failed; a read
-/// then gives the log of the items from before, or of these and the item, and so does a crash. `NoMemory` leaves the store as it
-/// was.
+/// After `Ok` the log has the item at its end, and all of it is stable. `StoreFault` comes only where the store failed;
+/// a read then gives the log of the items from before, or of these and the item, and so does a crash. `NoMemory` leaves
+/// the store as it was.
 pub fn append<S: Store>(
     alloc: Global,
     store: &mut S,

@@ -2,8 +2,8 @@
 use td_layer::Name;
 use td_model::Delta;
 
-/// An item of a log: a version, its moment in milliseconds since 1970, the session and ordinal of its statement (0 and 0 for an
-/// entry of no session), and what was done.
+/// An item of a log: a version, its moment in milliseconds since 1970, the session and ordinal of its statement (0 and
+/// 0 for an entry of no session), and what was done.
 #[derive(Debug, Drop)]
 pub struct LogItem {
     pub version: u64,
@@ -13,8 +13,8 @@ pub struct LogItem {
     pub body: LogBody,
 }
 
-/// What an item keeps: the text of the statement, or a stream's step up to a version, at a moment, with what it changed of
-/// the stream's result.
+/// What an item keeps: the text of the statement, or a stream's step up to a version, at a moment, with what it changed
+/// of the stream's result.
 #[derive(Debug, Drop)]
 pub enum LogBody {
     Text(Name),

@@ -1,5 +1,5 @@
-//! Laws of logs: bytes are one log at most, or break the form of a log at one place; what stands behind a closed gate means
-//! nothing; a new log has no items; what a crash leaves of a log.
+//! Laws of logs: bytes are one log at most, or break the form of a log at one place; what stands behind a closed gate
+//! means nothing; a new log has no items; what a crash leaves of a log.
 ghost use Rattle.std.specs.Prelude.{◌≡◌, ◌≢◌, ◌≤◌, ◌+◌, ℕ, true, false, List, [], ◌∷◌, ◌++◌, length, Option};
 ghost use Rattle.td_outside.specs.Crash.{MayLeave};
 ghost use Rattle.td_outside.specs.Image.{Image, Becomes};
@@ -23,15 +23,16 @@ pub fn nothing_behind_a_closed_gate(first: u64)
         → IsLog first (opened items ++ gate ∷ rest) items → IsLog first (opened items ++ gate ∷ other) items }
 {}
 
-/// A log that was made has no items, whatever the version of the first that comes. Its closed gate is its only byte, and it is
-/// stable.
+/// A log that was made has no items, whatever the version of the first that comes. Its closed gate is its only byte,
+/// and it is stable.
 pub fn a_new_log_is_empty()
     ensures log { (first : ℕ) → IsSettled first [] 0 new_log }
-    ensures told { (n first : ℕ) (old new : Option Image) → Becomes (after_log_create n) old new → LogSays new n (IsSettled first [] 0) }
+    ensures told { (n first : ℕ) (old new : Option Image) → Becomes (after_log_create n) old new
+        → LogSays new n (IsSettled first [] 0) }
 {}
 
-/// An item continues a log of items where it can be written, its version is the next one, and its moment isn't before the last;
-/// and an item that continues a log can be written.
+/// An item continues a log of items where it can be written, its version is the next one, and its moment isn't before
+/// the last; and an item that continues a log can be written.
 pub fn what_continues_a_log()
     ensures continues { (first : ℕ) (items : List Item) (i : Item) → IsWritable i → items_fit first 0 items ≡ true
         → i.version ≡ first + length items → last_moment 0 items ≤ i.moment → Continues first items i }
@@ -43,8 +44,8 @@ pub fn where_the_next_gate_stands()
     ensures { (at : ℕ) (i : Item) → next_gate at i ≡ at + 30 + length (body_bytes i.body) }
 {}
 
-/// Where no earlier call has left the log in doubt, a crash leaves a log that is stable as it is; and after an append that failed
-/// it leaves the log of the items from before, or of these and the item, all of it stable.
+/// Where no earlier call has left the log in doubt, a crash leaves a log that is stable as it is; and after an append
+/// that failed it leaves the log of the items from before, or of these and the item, all of it stable.
 pub fn a_crash_leaves_a_log()
     ensures settled { (n first : ℕ) (items : List Item) (at : ℕ) (now left : Image) → MayLeave now left
         → now.doubt.fresh n ≡ false → now.doubt.gone n ≡ false

@@ -15,8 +15,8 @@ use td_layer::{Name, Seq};
 use td_limits::{LAST_TIMESTAMP, LAST_VERSION, SESSIONS};
 use td_model::Delta;
 
-/// Why a log was not read: the bytes break its form first at a place, behind these items, which are whole; or there was no
-/// memory.
+/// Why a log was not read: the bytes break its form first at a place, behind these items, which are whole; or there was
+/// no memory.
 #[derive(Debug, Drop)]
 pub enum LogFault {
     NotThis { at: u64, items: Seq<LogItem> },
@@ -269,13 +269,14 @@ fn items_of(alloc: Global, bytes: &[u8], first: u64) -> Result<(Seq<LogItem>, u6
     Err(LogFault::NotThis { at, items })
 }
 
-/// The items of a log whose first item has the version `first`, up to the first gate that isn't open. `NotThis` comes exactly
-/// where the bytes aren't such a log, with the place of the first field that is cut short or breaks its rule, and the items
-/// whose bodies stand whole before it.
+/// The items of a log whose first item has the version `first`, up to the first gate that isn't open. `NotThis` comes
+/// exactly where the bytes aren't such a log, with the place of the first field that is cut short or breaks its rule,
+/// and the items whose bodies stand whole before it.
 pub fn read_all(alloc: Global, bytes: &[u8], first: u64) -> Result<Seq<LogItem>, LogFault>
     ensures exact { Answers first bytes.now result }
     // A log is read, unless memory runs out.
-    ensures only { (items : List Item) → IsLog first bytes.now items → (result ≡ Ok items) ⊎ (result ≡ Err faults.NoMemory) }
+    ensures only { (items : List Item) → IsLog first bytes.now items
+        → (result ≡ Ok items) ⊎ (result ≡ Err faults.NoMemory) }
 {
     let (items, _) = items_of(alloc, bytes, first)?;
     Ok(items)
@@ -288,7 +289,8 @@ pub fn read_to_gate(
     first: u64,
 ) -> Result<(Seq<LogItem>, u64), LogFault>
     ensures exact { AnswersAt first bytes.now result }
-    ensures only { (items : List Item) (at : ℕ) → LogAt first items at bytes.now → (result ≡ Ok (items, at)) ⊎ (result ≡ Err faults.NoMemory) }
+    ensures only { (items : List Item) (at : ℕ) → LogAt first items at bytes.now
+        → (result ≡ Ok (items, at)) ⊎ (result ≡ Err faults.NoMemory) }
 {
     items_of(alloc, bytes, first)
 }

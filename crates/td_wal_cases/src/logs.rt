@@ -51,8 +51,8 @@ impl From<Unwritten> for CaseFault {
     }
 }
 
-/// `read FIRST BYTES`: the items of a log and the place of its closed gate; or the items before the first place that is not of
-/// the form of a log, and that place.
+/// `read FIRST BYTES`: the items of a log and the place of its closed gate; or the items before the first place that is
+/// not of the form of a log, and that place.
 pub(crate) fn push_read(
     out: &mut Out,
     alloc: Global,

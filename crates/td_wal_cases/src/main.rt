@@ -1,9 +1,9 @@
 //! [tests] Cases of logs: each line of the input is a case, and its answer stands in the same line of the output.
 //!
-//! A case is a kind, a blank, the version of a log's first item, a blank, and the log's bytes as hexadecimal digits, between
-//! which blanks may stand. A line that is empty or begins with `#` is printed as it stands. The answers beside which the
-//! program's are compared were worked out from the format by hand. `logs` has the kinds. It stands on `td_wal`, whose calls it
-//! asks, on `td_memdev` for a store, and on `td_cases`.
+//! A case is a kind, a blank, the version of a log's first item, a blank, and the log's bytes as hexadecimal digits,
+//! between which blanks may stand. A line that is empty or begins with `#` is printed as it stands. The answers beside
+//! which the program's are compared were worked out from the format by hand. `logs` has the kinds. It stands on
+//! `td_wal`, whose calls it asks, on `td_memdev` for a store, and on `td_cases`.
 #![tactic(auto)]
 
 mod bytes;

@@ -15,7 +15,13 @@ play_app = with_rule (new_app (codes "play")) dir_rule
 
 -- the words are those of a subcommand, and there is no help
 abbrev pub bare_app : App
-bare_app = on_top (λ s. record s { no_binary_name = true; disable_help_flag = true; disable_help_subcommand = true; subcommand_required = true }) (new_app (codes "td_vnode"))
+bare_app =
+    on_top (λ s. record s {
+      no_binary_name = true;
+      disable_help_flag = true;
+      disable_help_subcommand = true;
+      subcommand_required = true;
+    }) (new_app (codes "td_vnode"))
 
 abbrev pub program_app : App
 program_app = with_subcommand bare_app play_app.top

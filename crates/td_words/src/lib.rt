@@ -38,8 +38,8 @@ pub fn read_command<'a>(alloc: Global, words: &'a [String]) -> Result<Option<Com
     }
 }
 
-// What is answered where there was no memory to parse the words: that they are no command is told by their shape, which takes
-// no memory.
+// What is answered where there was no memory to parse the words: that they are no command is told by their shape, which
+// takes no memory.
 fn starved<'a>(words: &'a [String]) -> Result<Option<Command<'a>>, NoMem>
     ensures command { IfOk result (λ c. (c ≡ None) × (dir_of (map string_bytes words.now) ≡ None)) }
     ensures starved { IfErr result (λ e. is_some (dir_of (map string_bytes words.now)) ≡ true) }
