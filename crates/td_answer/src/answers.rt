@@ -4,7 +4,7 @@ ghost use Rattle.td_model.specs.declared.language.Query.{Query};
 ghost use Rattle.td_model.specs.State.{State};
 ghost use Rattle.td_verdict.specs.Fields.{comparisons_of};
 ghost use Rattle.td_verdict.specs.Plans.{plan_of, reads_one};
-ghost use Rattle.td_verdict.specs.Answers.{answer, answer_of, cut, ordered, shown_places};
+ghost use Rattle.td_verdict.specs.Answers.{row_answer, answer_of, cut, ordered, shown_places};
 ghost use Rattle.td_verdict.specs.Sound.{IsSound};
 ghost use Rattle.td_answer.specs.Firsts.{cells_of_lines, cells_found};
 ghost use Rattle.td_answer.specs.Picks.{plan_found};
@@ -73,10 +73,10 @@ fn shown_of<M: RowsByKey>(
     Ok(all)
 }
 
-/// A part of the answer of a plan over rows: of its rows, in their order, without the first `skip`, at most `count`.
-/// The order is by timestamp, then by table, or the reverse; then OFFSET, then LIMIT. The whole answer has fewer than
-/// 2^63 rows. Of a plan of one table in rising order it reads no further than the last row that it gives. A negative
-/// OFFSET or LIMIT counts as 0. `Err(NoMem)` is want of memory.
+/// A part of the answer of a row query's plan over rows: of its rows, in their order, without the first `skip`, at most
+/// `count`. The order is by timestamp, then by table, or the reverse; then OFFSET, then LIMIT. The whole answer has
+/// fewer than 2^63 rows. Of a plan of one table in rising order it reads no further than the last row that it gives. A
+/// negative OFFSET or LIMIT counts as 0. `Err(NoMem)` is want of memory.
 pub fn answer<M: RowsByKey>(
     alloc: Global,
     plan: &Plan,
@@ -85,9 +85,9 @@ pub fn answer<M: RowsByKey>(
     count: u64,
 ) -> Result<Seq<Seq<Cell>>, NoMem>
     ensures part { (q : Query) (s : State) → IsSound s → plan.now ≡ plan_of q s.catalog → M.rows rows.now ≡ s.rows
-        → IfOk result (λ all. all ≡ take count (drop skip (answer q s))) }
+        → IfOk result (λ all. all ≡ take count (drop skip (row_answer q s))) }
     ensures small { (q : Query) (s : State) → IsSound s → plan.now ≡ plan_of q s.catalog → M.rows rows.now ≡ s.rows
-        → IfOk result (λ all. length (answer q s) < 2 ^ 63) }
+        → IfOk result (λ all. length (row_answer q s) < 2 ^ 63) }
 {
     let shown = shown_of(alloc, plan, rows, skip, count)?;
     Ok(shown)

@@ -1,4 +1,4 @@
-//! [answers] The answer of a row query over rows by key. It stands in until the query engine answers every form.
+//! [answers] The answer of a row query over rows by key.
 //!
 //! [`answer`] reads the rows of a plan's tables in the plan's range of timestamps and gives those of which all
 //! comparisons are true, in the order of the answer, or a part of them. It promises the answer of the definitions
@@ -7,8 +7,8 @@
 //! are shown alone.
 //!
 //! It stands on `td_verdict` for the definitions, on `td_rows` for the rows, on `td_fields` for what the names of a
-//! query mean, on `td_cells` for the comparison of cells, and on `td_model` and `td_layer` for the types. It stands in
-//! until aggregates and windows are built.
+//! query mean, on `td_cells` for the comparison of cells, and on `td_model` and `td_layer` for the types. Queries with
+//! aggregates, windows and PARTITION BY are answered by `td_query`.
 #![tactic(auto)]
 
 mod answers;

@@ -1,5 +1,5 @@
 -- The tables of a catalog by number, and those that a query reads, found in two ways.
-use Rattle.std.proofs.Common.{inl, inr, ◌≡◌, ℕ, suc, ◌+◌, ◌-◌, ◌<◌, ◌≤◌, ◌==◌, ◌⊎◌, Bool, true, false, cond, ◌&&◌, List, [], ◌∷◌, ◌++◌, map, append-nil, map-id, filter, length, slice_get, Option, Some, None, is_some, refl, sym, ap, subst, ◌∙◌, arith, nat_lt, nat_eq}
+use Rattle.std.proofs.Common.{inl, inr, ◌≡◌, ℕ, suc, ◌+◌, ◌-◌, ◌<◌, ◌≤◌, ◌==◌, ◌⊎◌, Bool, true, false, cond, ◌&&◌, List, [], ◌∷◌, map, filter, length, slice_get, Option, Some, None, is_some, refl, sym, ap, subst, ◌∙◌, arith, nat_lt, nat_eq}
 use Rattle.std.specs.List.{AllByRecursion}
 use Rattle.std.specs.Option.{option_map_or}
 use Rattle.std.proofs.lemmas.Option.{same_Some, slice_get_cases}
@@ -8,8 +8,10 @@ use Rattle.std.proofs.lemmas.Bool.{eq-eqb, ne_eqb, cases_eq, and_parts}
 use Rattle.std.proofs.lemmas.List.Elements.{All-from_recursion, All-map}
 use Rattle.td_layer.specs.declared.values.Cell.{Cell}
 use Rattle.td_layer.specs.declared.values.Cell.TheVariants as cell
+use Rattle.td_model.specs.declared.catalog.Schema.{Schema}
 use Rattle.td_model.specs.declared.catalog.TableDef.{TableDef}
 use Rattle.td_model.specs.declared.language.Op.{Op}
+use Rattle.td_model.specs.declared.language.PartBy.{PartBy}
 use Rattle.td_model.specs.Catalog.{Catalog, table_at}
 use Rattle.td_model.specs.Tags.{matching, cell_matches, tag_matches}
 use Rattle.td_catalog.specs.Kept.{IsNumbered}
@@ -17,8 +19,9 @@ use Rattle.td_catalog.specs.Groups.{children_of}
 use Rattle.td_verdict.specs.declared.comparison.Comparison.{Comparison}
 use Rattle.td_verdict.specs.declared.source.Source.{Source}
 use Rattle.td_verdict.specs.declared.source.Source.TheVariants.{Table, Stable, Other}
+use Rattle.td_verdict.specs.Parts.{part_of}
 use Rattle.td_verdict.specs.Plans.{Numbered, numbered, all_tables, subtables_of, is_under, is_read, planned, holds_of_table, all_hold_of_table}
-use Rattle.td_bind.specs.Tables.{numbers_of, is_planned, is_indexed, tags_at, name_at, first_indexed, AreThere}
+use Rattle.td_bind.specs.Tables.{numbers_of, is_planned, is_indexed, tags_at, name_at, part_at, first_indexed, AreThere}
 use Rattle.td_bind.proofs.Filters.{filter_implied, filter_agreeing, filter-map, map_map, map_agreeing, all-filter, all_weaker}
 
 -- ---- tables by number
@@ -86,6 +89,15 @@ planned_tags source columns ps c = had_by_number c (λ (t : TableDef). t.tags) [
 
 pub planned_names : (source : Source) (columns : ℕ) (ps : List Comparison) (c : Catalog) → map (name_at c) (numbers_of (planned source columns ps c)) ≡ map (λ (e : Numbered). e.1.name) (planned source columns ps c)
 planned_names source columns ps c = had_by_number c (λ (t : TableDef). t.name) [] (planned source columns ps c) (planned_known source columns ps c)
+
+pub planned_parts : (s : Schema) (parts : List PartBy) (source : Source) (columns : ℕ) (ps : List Comparison) (c : Catalog)
+    → map (part_at s parts c) (numbers_of (planned source columns ps c)) ≡ map (λ (e : Numbered). part_of s parts e.1.name e.1.tags) (planned source columns ps c)
+planned_parts s parts source columns ps c =
+    let es = planned source columns ps c in
+    map_map (λ (e : Numbered). e.0) (part_at s parts c) es
+    ∙ map_agreeing (λ (e : Numbered). part_at s parts c e.0) (λ (e : Numbered). part_of s parts e.1.name e.1.tags) es
+    (all_weaker (IsKnown c) (λ (e : Numbered). part_at s parts c e.0 ≡ part_of s parts e.1.name e.1.tags)
+    (λ e k. ap (λ o. part_of s parts (option_map_or (λ (t : TableDef). t.name) o []) (option_map_or (λ (t : TableDef). t.tags) o [])) k.is) es (planned_known source columns ps c))
 
 -- ---- one table
 

@@ -1,10 +1,9 @@
 -- The one table of a name, and what a query over its supertable reads.
-use Rattle.std.proofs.Common.{inl, inr, ◌≡◌, ℕ, ◌+◌, ◌-◌, ◌<◌, ◌==◌, ◌++◌, nat_lt, Bool, true, false, cond, ◌&&◌, ◌||◌, List, [], ◌∷◌, map, filter, length, All, Option, Some, None, is_eq, refl, sym, ap, subst, ◌∙◌, arith}
-use Rattle.std.specs.List.{AllByRecursion, list_any, find, position_from}
+use Rattle.std.proofs.Common.{inl, inr, ◌≡◌, ℕ, ◌+◌, ◌-◌, ◌==◌, ◌++◌, nat_lt, Bool, true, false, cond, ◌&&◌, ◌||◌, List, [], ◌∷◌, map, filter, length, Option, Some, None, refl, sym, ap, ◌∙◌, arith}
+use Rattle.std.specs.List.{list_any, position_from}
 use Rattle.std.specs.Option.{option_map, option_to_list, option_and_then}
-use Rattle.std.specs.Ordering.{nat_cmp}
 use Rattle.std.specs.Str.{bytes_eq}
-use Rattle.std.specs.Cmp.Lexicographic.{slice_cmp, nat_list_eq_equiv}
+use Rattle.std.specs.Cmp.Lexicographic.{nat_list_eq_equiv}
 use Rattle.std.proofs.lemmas.Bool.{or_parts, and_parts}
 use Rattle.std.proofs.lemmas.List.Elements.{All-push}
 use Rattle.std.proofs.lemmas.Option.{same_Some}
@@ -24,7 +23,7 @@ use Rattle.td_verdict.specs.declared.comparison.Comparison.{Comparison}
 use Rattle.td_verdict.specs.declared.source.Source.TheVariants.{Stable}
 use Rattle.td_verdict.specs.Names.{stands_twice}
 use Rattle.td_verdict.specs.Plans.{Numbered, numbered, all_tables, is_under, planned, holds_of_table, all_hold_of_table}
-use Rattle.td_verdict.specs.Valid.{IsValid, all_names}
+use Rattle.td_verdict.specs.Valid.{IsValid}
 use Rattle.td_bind.specs.Tables.{numbers_of, is_planned, is_equal, first_named, table_of_cell, AreThere}
 use Rattle.td_bind.proofs.Filters.{filter_implied, all-filter}
 use Rattle.td_bind.proofs.ByNumber.{IsKnown, all_known, kept_by_number, first_or_rest}

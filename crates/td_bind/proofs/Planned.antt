@@ -1,5 +1,5 @@
 -- The plan of a query: its range of timestamps, its tables, and the whole; and the order of its causes.
-use Rattle.std.proofs.Common.{◌≡◌, ℕ, ◌+◌, ◌<◌, min, max, List, [], ◌∷◌, ◌++◌, map, length, take, get_or, Option, Some, None, Result, Ok, Err, sym, ap, ◌∙◌, arith}
+use Rattle.std.proofs.Common.{◌≡◌, ℕ, ◌+◌, ◌<◌, min, max, List, [], ◌∷◌, ◌++◌, map, length, take, get_or, Option, Some, None, is_some, Result, Ok, Err, refl, sym, ap, ◌∙◌, arith}
 use Rattle.std.specs.Option.{option_or}
 use Rattle.std.specs.Result.{IfOk}
 use Rattle.std.proofs.lemmas.List.{take_more}
@@ -8,16 +8,16 @@ use Rattle.td_model.specs.declared.catalog.Schema.{Schema}
 use Rattle.td_model.specs.declared.language.Query.{Query}
 use Rattle.td_model.specs.declared.plan.Plan.{Plan}
 use Rattle.td_model.specs.declared.report.Cause.{Cause}
-use Rattle.td_model.specs.Catalog.{Catalog, target_named}
+use Rattle.td_model.specs.Catalog.{Catalog, stable_named, table_named, target_named}
 use Rattle.td_verdict.specs.declared.comparison.Comparison.{Comparison}
 use Rattle.td_verdict.specs.declared.source.Source.{Source}
 use Rattle.td_verdict.specs.Fields.{comparisons_of}
-use Rattle.td_verdict.specs.Queries.{source_cause, source_of, source_schema, body_cause, query_cause, query_verdict, passes_or}
+use Rattle.td_verdict.specs.Parts.{part_of}
+use Rattle.td_verdict.specs.Queries.{source_by, source_cause, source_of, source_schema, reads_table, body_cause, query_cause, query_verdict, passes_or}
 use Rattle.td_verdict.specs.Plans.{Numbered, low, high, lowest, highest, planned, plan_over, plan_from, plan_of}
-use Rattle.td_bind.specs.Answers.{query_verdict_of, IsAnswerOf}
-use Rattle.td_bind.specs.Tables.{numbers_of, tags_at, name_at, no_cells, AreThere}
-use Rattle.td_bind.proofs.Filters.{map_map}
-use Rattle.td_bind.proofs.ByNumber.{planned_tags, planned_names, are_there, planned_known}
+use Rattle.td_bind.specs.Answers.{query_verdict_of, is_table, IsAnswerOf}
+use Rattle.td_bind.specs.Tables.{numbers_of, tags_at, name_at, part_at, AreThere}
+use Rattle.td_bind.proofs.ByNumber.{planned_tags, planned_names, planned_parts, are_there, planned_known}
 
 -- ---- timestamps
 
@@ -59,13 +59,13 @@ module _ (q : Query) (source : Source) (s : Schema) (c : Catalog) (ps : List Com
   over qs = plan_over q s (planned source (length s.columns) qs c) qs (target_named q.source c)
 
   pub plan_made : (copy : Query) (schema : Schema) (tables : List ℕ) (parts tags : List (List Cell)) (names : List (List ℕ)) (lo hi : ℕ) (target : Option ℕ)
-      → copy ≡ q → schema ≡ s → tables ≡ numbers_of (planned source (length s.columns) ps c) → parts ≡ map no_cells tables → tags ≡ map (tags_at c) tables → names ≡ map (name_at c) tables
+      → copy ≡ q → schema ≡ s → tables ≡ numbers_of (planned source (length s.columns) ps c) → parts ≡ map (part_at s q.parts c) tables → tags ≡ map (tags_at c) tables → names ≡ map (name_at c) tables
       → lo ≡ lowest ps → hi ≡ highest ps → target ≡ target_named q.source c
       → ◌≡◌ {A = Plan} (record { query = copy; tables = tables; parts = parts; tags = tags; names = names; schema = schema; lo = lo; hi = hi; target = target }) (plan_from q source s c)
   unfolding over
   plan_made copy schema tables parts tags names lo hi target q_is s_is t p g n l h target_is =
       let es = planned source (length s.columns) ps c in
-      let p_is : parts ≡ map (λ (e : Numbered). []) es = p ∙ ap (map no_cells) t ∙ map_map (λ (e : Numbered). e.0) no_cells es in
+      let p_is : parts ≡ map (λ (e : Numbered). part_of s q.parts e.1.name e.1.tags) es = p ∙ ap (map (part_at s q.parts c)) t ∙ planned_parts s q.parts source (length s.columns) ps c in
       let g_is : tags ≡ map (λ (e : Numbered). e.1.tags) es = g ∙ ap (map (tags_at c)) t ∙ planned_tags source (length s.columns) ps c in
       let n_is : names ≡ map (λ (e : Numbered). e.1.name) es = n ∙ ap (map (name_at c)) t ∙ planned_names source (length s.columns) ps c in
       let made : ◌≡◌ {A = Plan} (record { query = copy; tables = tables; parts = parts; tags = tags; names = names; schema = schema; lo = lo; hi = hi; target = target }) (over ps) = (λ i. record { query = q_is i; tables = t i; parts = p_is i; tags = g_is i; names = n_is i; schema = s_is i; lo = l i; hi = h i; target = target_is i }) in
@@ -75,12 +75,23 @@ module _ (q : Query) (source : Source) (s : Schema) (c : Catalog) (ps : List Com
 
 -- a cause of the source comes before those of the body
 pub cause_of_source : (q : Query) (c : Catalog) (why : Cause) → Some why ≡ source_cause q c → query_cause q c ≡ Some why
-cause_of_source q c why h = ap (λ o. option_or o (body_cause (source_schema q.source c) q)) (sym h)
+cause_of_source q c why h = ap (λ o. option_or o (body_cause (reads_table q c) (source_schema q.source c) q)) (sym h)
+
+-- a source is a table where one has its name
+by_table : (table stable : Option ℕ) → is_table (source_by table stable) ≡ is_some table
+by_table (Some n) stable = refl
+by_table None (Some n) = refl
+by_table None None = refl
 
 -- what is answered over the source, where that is no cause
 module _ (q : Query) (source : Source) (s : Schema) (c : Catalog) (none : source_cause q c ≡ None) (source_is : source ≡ source_of q.source c) (schema_is : s ≡ source_schema q.source c) where
-  cause_is : query_cause q c ≡ body_cause s q
-  cause_is = ap (λ o. option_or o (body_cause (source_schema q.source c) q)) none ∙ ap (λ t. body_cause t q) (sym schema_is)
+  of_table : is_table source ≡ reads_table q c
+  of_table = ap is_table source_is ∙ by_table (table_named q.source c) (stable_named q.source c)
+
+  cause_is : query_cause q c ≡ body_cause (is_table source) s q
+  cause_is =
+      ap (λ o. option_or o (body_cause (reads_table q c) (source_schema q.source c) q)) none
+      ∙ (λ i. body_cause (sym of_table i) (sym schema_is i) q)
 
   pub answer_verdict : (answer : Result Plan Cause) → IsAnswerOf q source s c answer → query_verdict_of answer ≡ query_verdict q c
   answer_verdict (Ok plan) h = ap passes_or (sym (cause_is ∙ h.0))

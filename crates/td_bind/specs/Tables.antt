@@ -3,14 +3,17 @@ use Rattle.std.specs.Prelude.{ℕ, ◌&&◌, ◌==◌, Bool, true, false, List, 
 use Rattle.std.specs.List.{find, All}
 use Rattle.std.specs.Option.{option_map_or, option_and_then}
 use Rattle.td_layer.specs.declared.values.Cell.{Cell}
+use Rattle.td_model.specs.declared.catalog.Schema.{Schema}
 use Rattle.td_model.specs.declared.catalog.TableDef.{TableDef}
 use Rattle.td_model.specs.declared.language.Op.{Op}
 use Rattle.td_model.specs.declared.language.Op.TheVariants as op
+use Rattle.td_model.specs.declared.language.PartBy.{PartBy}
 use Rattle.td_model.specs.Catalog.{Catalog, table_at, table_named}
 use Rattle.td_model.specs.Tags.{text_of}
 use Rattle.td_verdict.specs.declared.comparison.Comparison.{Comparison}
 use Rattle.td_verdict.specs.declared.source.Source.{Source}
 use Rattle.td_verdict.specs.declared.source.Source.TheVariants.{Table, Stable, Other}
+use Rattle.td_verdict.specs.Parts.{part_of}
 use Rattle.td_verdict.specs.Plans.{Numbered, is_under, all_hold_of_table}
 use Rattle.td_catalog.specs.Kept.{IsNumbered}
 
@@ -37,8 +40,9 @@ tags_at c n = option_map_or (λ (t : TableDef). t.tags) (table_at n c) []
 abbrev pub name_at : Catalog → ℕ → List ℕ
 name_at c n = option_map_or (λ (t : TableDef). t.name) (table_at n c) []
 
-abbrev pub no_cells : ℕ → List Cell
-no_cells n = []
+-- the cells that PARTITION BY items give for the table of a number
+abbrev pub part_at : Schema → List PartBy → Catalog → ℕ → List Cell
+part_at s parts c n = part_of s parts (name_at c n) (tags_at c n)
 
 -- whether the tags that pass a comparison lie together in the index
 abbrev pub is_indexed : Op → Bool

@@ -1,12 +1,13 @@
-//! [binding] The verdict of a write that is built, and of a row query with its plan.
+//! [binding] The verdict of a write that is built, and of a query with its plan.
 //!
 //! [`bind_write`] says what a write meets in a catalog, at a retention edge and a moment: accepted, as an entry of the
 //! history with its count of rows, or refused with the first cause that applies. It promises that this is the verdict
 //! of the definitions (`td_verdict`), that the catalog can take what is accepted, each value of a put being NULL or in
 //! the range of its column's kind, and that no row of it lies before the edge.
 //!
-//! [`bind_query`] says what a row query meets: it passes with its plan, or is refused with the first cause that
-//! applies. It promises the verdict and the plan of the definitions, and that the plan is sound. A plan over a
+//! [`bind_query`] says what a query meets: it passes with its plan, or is refused with the first cause that applies,
+//! BadSelect and BadWindow among them. It promises the verdict and the plan of the definitions, that the plan is sound,
+//! and that its timestamps end in the range of time and its interval has durations in their bounds. A plan over a
 //! supertable is looked for at the table of a name, where a condition leaves one, or else among those that the index of
 //! tags gives, or else among the supertable's subtables; no clause says so. That want of memory comes only where there
 //! is none is shown by tests, and by no contract.
@@ -25,6 +26,7 @@ mod names;
 mod puts;
 mod query;
 mod ranges;
+mod refusals;
 mod remove;
 mod seen;
 mod selects;

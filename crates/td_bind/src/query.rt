@@ -1,17 +1,16 @@
 //! Queries: what one meets, and its plan.
-ghost use Rattle.std.specs.Prelude.{◌≡◌, false, true, IfOk, IsTrue};
-ghost use Rattle.td_model.specs.Built.{is_row_query};
+ghost use Rattle.std.specs.Prelude.{◌≡◌, false, true, IfOk};
 ghost use Rattle.td_model.specs.Catalog.{no_schema};
 ghost use Rattle.td_verdict.specs.Queries.{source_cause, query_verdict};
 ghost use Rattle.td_verdict.specs.Plans.{subtables_of, plan_from, plan_of};
-ghost use Rattle.td_verdict.specs.Sound.{has_now, IsSoundPlan};
-ghost use Rattle.td_bind.specs.Answers.{query_verdict_of, IsAnswerOf};
+ghost use Rattle.td_verdict.specs.Sound.{has_now, IsSoundPlan, IsBounded};
+ghost use Rattle.td_bind.specs.Answers.{query_verdict_of, is_table, IsAnswerOf};
 ghost use Rattle.td_bind.specs.Tables.{IsThere};
 
 use crate::names::is_taken;
 use crate::ranges::range_of;
 use crate::selects::{body_cause, reads_all};
-use crate::tables::{find_source, names_of, no_parts, planned, tags_of};
+use crate::tables::{find_source, names_of, parts_of, planned, tags_of};
 use std::alloc::Global;
 use td_catalog::Catalog;
 use td_fields::comparisons;
@@ -61,7 +60,13 @@ fn plan_from(
     let columns = schema.columns.len();
     let (lo, hi) = range_of(comparisons);
     let tables = planned(alloc, source, columns, comparisons, catalog, tags)?;
-    let parts = no_parts(alloc, tables.as_slice())?;
+    let parts = parts_of(
+        alloc,
+        schema,
+        query.parts.as_slice(),
+        catalog,
+        tables.as_slice(),
+    )?;
     let tags = tags_of(alloc, catalog, tables.as_slice())?;
     let names = names_of(alloc, catalog, tables.as_slice())?;
     let target = catalog.find_target(&query.source);
@@ -80,6 +85,12 @@ fn plan_from(
     })
 }
 
+fn is_table(source: Source) -> bool
+    ensures { result ≡ is_table source }
+{
+    matches!(source, Source::Table(_))
+}
+
 // What a query meets over its source, where the source is no cause.
 fn bind_over(
     alloc: Global,
@@ -93,7 +104,7 @@ fn bind_over(
     requires there { IsThere source catalog.now.catalog }
     ensures { IfOk result (λ answer. IsAnswerOf query.now source schema.now catalog.now.catalog answer) }
 {
-    let cause = body_cause(alloc, schema, query)?;
+    let cause = body_cause(alloc, is_table(source), schema, query)?;
     if let Some(cause) = cause {
         return Ok(Err(cause));
     }
@@ -128,8 +139,9 @@ fn answer_of(
     }
 }
 
-/// What a row query meets in a catalog: its plan where it passes, or the first cause that applies. The index has the
-/// subtables of the catalog, each with its tags. The plan is sound, where no literal of the conditions is NOW.
+/// What a query meets in a catalog: its plan where it passes, or the first cause that applies. The index has the
+/// subtables of the catalog, each with its tags. The plan is sound, where no literal of the conditions is NOW. It can
+/// be answered in any case: its timestamps end in the range of time, and its interval has durations in their bounds.
 /// `Err(NoMem)` is want of memory.
 pub fn bind_query(
     alloc: Global,
@@ -137,11 +149,11 @@ pub fn bind_query(
     catalog: &Catalog,
     tags: &TagIndex,
 ) -> Result<Result<Plan, Cause>, NoMem>
-    requires built { IsTrue (is_row_query query.now) }
     requires subtables { tags.now.subtables ≡ subtables_of catalog.now.catalog }
     ensures verdict { IfOk result (λ answer. query_verdict_of answer ≡ query_verdict query.now catalog.now.catalog) }
     ensures plan { IfOk result (λ answer. IfOk answer (λ plan. plan ≡ plan_of query.now catalog.now.catalog)) }
     ensures sound { has_now query.now ≡ false → IfOk result (λ answer. IfOk answer IsSoundPlan) }
+    ensures bounded { IfOk result (λ answer. IfOk answer IsBounded) }
 {
     catalog.is_valid();
     let answer = answer_of(alloc, query, catalog, tags)?;

@@ -1,25 +1,22 @@
-//! What a row query meets over the schema of its source.
+//! What a query meets over the schema of its source: its names, its literals and its LIMIT. What its select list and
+//! its window meet stands in `refusals`.
 ghost use Rattle.std.specs.Prelude.{◌≡◌, IfOk};
 ghost use Rattle.std.specs.List.{list_any};
 ghost use Rattle.td_model.specs.declared.language.Item.{Item};
 ghost use Rattle.td_model.specs.declared.language.Cond.{Cond};
 ghost use Rattle.td_verdict.specs.Fields.{part_column, tbname_column};
-ghost use Rattle.td_verdict.specs.Streams.{is_plain};
 ghost use Rattle.td_verdict.specs.Values.{suits};
-ghost use Rattle.td_verdict.specs.Queries.{reads_all, is_unknown, is_item_unknown, is_part_unknown, is_window_start, is_order_unknown, has_unknown, mismatch_at, mismatch_cause, needs_window, is_order_other, is_bad_selection, is_count, is_bad_limit, body_cause};
+ghost use Rattle.td_verdict.specs.Queries.{reads_all, is_unknown, is_item_unknown, is_part_unknown, is_window_unknown, is_order_unknown, has_unknown, mismatch_at, mismatch_cause, is_count, is_bad_limit, body_cause};
 
 use crate::columns::mismatch_of;
+use crate::refusals::{is_bad_selection, is_bad_window, is_plain, is_window_start};
 use std::alloc::Global;
-use td_fields::{TBNAME, field_named, is_first, said_at};
+use td_fields::{TBNAME, field_named, said_at};
 use td_layer::{Name, NoMem, Seq};
 use td_limits::LAST_COUNT;
-use td_model::{Cause, Column, Cond, Item, ItemKind, Lit, OrderBy, PartBy, Query, Schema};
-
-fn is_plain(order: &OrderBy) -> bool
-    ensures { result ≡ is_plain order.now }
-{
-    matches!(order, OrderBy::Plain)
-}
+use td_model::{
+    Cause, Column, Cond, Item, ItemKind, Lit, OrderBy, PartBy, Query, Schema, WindowDef,
+};
 
 // Whether a query is `SELECT *` with an optional LIMIT alone.
 pub(crate) fn reads_all(query: &Query) -> bool
@@ -39,8 +36,8 @@ fn is_item_unknown(schema: &Schema, what: &ItemKind) -> bool
     ensures { result ≡ is_item_unknown schema.now what.now }
 {
     match what {
-        ItemKind::Col(name) => is_unknown(schema, name),
-        _ => false,
+        ItemKind::Col(name) | ItemKind::Fun(_, name) => is_unknown(schema, name),
+        ItemKind::TbName | ItemKind::WStart | ItemKind::WEnd | ItemKind::CountAll => false,
     }
 }
 
@@ -53,11 +50,15 @@ fn is_part_unknown(schema: &Schema, of: &PartBy) -> bool
     }
 }
 
-// Whether a name is the word of ORDER BY for a window's start.
-fn is_window_start(name: &Name) -> bool
-    ensures { result ≡ is_window_start name.now }
+fn is_window_unknown(schema: &Schema, window: &WindowDef) -> bool
+    ensures { result ≡ is_window_unknown schema.now window.now }
 {
-    name.as_slice() == b"_wstart".as_slice()
+    match window {
+        WindowDef::Session { column, .. } | WindowDef::State { column } => {
+            is_unknown(schema, column)
+        }
+        WindowDef::Whole | WindowDef::Interval { .. } => false,
+    }
 }
 
 fn is_order_unknown(schema: &Schema, order: &OrderBy) -> bool
@@ -85,12 +86,21 @@ fn compares_unknown(schema: &Schema, conds: &[Cond]) -> bool
     conds.iter().any(|cond| is_part_unknown(schema, &cond.of))
 }
 
+// Whether a PARTITION BY item is a name that is no column or tag.
+fn parts_unknown(schema: &Schema, parts: &[PartBy]) -> bool
+    ensures { result ≡ list_any (is_part_unknown schema.now) parts.now }
+{
+    parts.iter().any(|part| is_part_unknown(schema, part))
+}
+
 // Whether a query has a name that is no column or tag.
 fn has_unknown(schema: &Schema, query: &Query) -> bool
     ensures { result ≡ has_unknown schema.now query.now }
 {
     selects_unknown(schema, query.items.as_slice())
         || compares_unknown(schema, query.conds.as_slice())
+        || parts_unknown(schema, query.parts.as_slice())
+        || is_window_unknown(schema, &query.window)
         || is_order_unknown(schema, &query.order)
 }
 
@@ -141,36 +151,6 @@ fn mismatch_cause(alloc: Global, schema: &Schema, conds: &[Cond]) -> Result<Opti
     Ok(None)
 }
 
-fn needs_window(what: &ItemKind) -> bool
-    ensures { result ≡ needs_window what.now }
-{
-    matches!(what, ItemKind::WStart | ItemKind::WEnd)
-}
-
-// Whether an item of a select list needs a window.
-fn selects_window(items: &[Item]) -> bool
-    ensures { result ≡ list_any (λ (i : Item). needs_window i.what) items.now }
-{
-    items.iter().any(|item| needs_window(&item.what))
-}
-
-// Whether the order is by another thing than the first column.
-fn is_order_other(columns: &[Column], order: &OrderBy) -> bool
-    ensures { result ≡ is_order_other columns.now order.now }
-{
-    match order {
-        OrderBy::Plain => false,
-        OrderBy::Asc(name) | OrderBy::Desc(name) => !is_first(columns, name),
-    }
-}
-
-fn is_bad_selection(schema: &Schema, query: &Query) -> bool
-    ensures { result ≡ is_bad_selection schema.now query.now }
-{
-    selects_window(query.items.as_slice())
-        || is_order_other(schema.columns.as_slice(), &query.order)
-}
-
 // Whether a number is a count of rows.
 fn is_count(n: i128) -> bool
     ensures { result ≡ is_count n }
@@ -187,10 +167,11 @@ fn is_bad_limit(query: &Query) -> bool
 // Why a query over the schema of its source is refused, if it is.
 pub(crate) fn body_cause(
     alloc: Global,
+    of_table: bool,
     schema: &Schema,
     query: &Query,
 ) -> Result<Option<Cause>, NoMem>
-    ensures { IfOk result (λ cause. cause ≡ body_cause schema.now query.now) }
+    ensures { IfOk result (λ cause. cause ≡ body_cause of_table schema.now query.now) }
 {
     if has_unknown(schema, query) {
         return Ok(Some(Cause::UnknownColumn));
@@ -200,6 +181,9 @@ pub(crate) fn body_cause(
     }
     if is_bad_selection(schema, query) {
         return Ok(Some(Cause::BadSelect));
+    }
+    if is_bad_window(of_table, schema, query) {
+        return Ok(Some(Cause::BadWindow));
     }
     if is_bad_limit(query) {
         return Ok(Some(Cause::BadLimit));

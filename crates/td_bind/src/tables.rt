@@ -5,14 +5,15 @@ ghost use Rattle.td_catalog.specs.Kept.{IsNumbered};
 ghost use Rattle.td_model.specs.Tags.{matching};
 ghost use Rattle.td_verdict.specs.Plans.{subtables_of, holds_of_table, all_hold_of_table, planned};
 ghost use Rattle.td_verdict.specs.Queries.{source_of, source_schema};
-ghost use Rattle.td_bind.specs.Tables.{IsThere, numbers_of, is_planned, is_indexed, first_indexed, is_equal, first_named, table_of_cell, AreThere, tags_at, name_at, no_cells};
+ghost use Rattle.td_bind.specs.Tables.{IsThere, numbers_of, is_planned, is_indexed, first_indexed, is_equal, first_named, table_of_cell, AreThere, tags_at, name_at, part_at};
 
 use crate::found::{find_stable, find_table};
 use std::alloc::Global;
 use td_catalog::Catalog;
 use td_cells::{tag_matches, text_matches};
+use td_fields::part_of;
 use td_layer::{Cell, Copied, Name, NoMem, Seq};
-use td_model::{Op, Schema};
+use td_model::{Op, PartBy, Schema};
 use td_tagidx::TagIndex;
 use td_verdict::{Comparison, Source};
 
@@ -328,13 +329,23 @@ pub(crate) fn names_of(alloc: Global, catalog: &Catalog, tables: &[u32]) -> Resu
     Ok(all)
 }
 
-// An empty list for each of some tables.
-pub(crate) fn no_parts(alloc: Global, tables: &[u32]) -> Result<Seq<Seq<Cell>>, NoMem>
-    ensures { IfOk result (λ parts. parts ≡ map no_cells tables.now) }
+// The cells that PARTITION BY items give for some tables.
+pub(crate) fn parts_of(
+    alloc: Global,
+    schema: &Schema,
+    parts: &[PartBy],
+    catalog: &Catalog,
+    tables: &[u32],
+) -> Result<Seq<Seq<Cell>>, NoMem>
+    requires { AreThere catalog.now.catalog tables.now }
+    ensures { IfOk result (λ all. all ≡ map (part_at schema.now parts.now catalog.now.catalog) tables.now) }
 {
-    let mut parts = Seq::new(alloc);
-    for _table in tables {
-        parts.add(Seq::new(alloc))?;
+    let mut all = Seq::new(alloc);
+    for table in tables {
+        let name = catalog.name_of(*table);
+        let tags = catalog.tags_of(*table);
+        let part = part_of(alloc, schema, parts, name, tags)?;
+        all.add(part)?;
     }
-    Ok(parts)
+    Ok(all)
 }

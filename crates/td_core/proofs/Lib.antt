@@ -11,3 +11,4 @@ pub mod Points
 pub mod Entering
 pub mod Readings
 pub mod Pinning
+pub mod NamedKinds

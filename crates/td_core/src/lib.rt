@@ -13,8 +13,8 @@
 //! at most, breaks at one place at most, and never does both.
 //!
 //! It stands on `td_tables` for the state, on `td_wal` for the log, on `td_parse` for the texts in it, on `td_answer`
-//! and `td_rows` for answers and the rows beneath them, on `td_outside` for the store and the clock, and on `td_told`
-//! for the definitions.
+//! for the answers of row queries, on `td_query` for those of queries with aggregates or windows, on `td_rows` for the
+//! rows beneath them, on `td_outside` for the store and the clock, and on `td_told` for the definitions.
 #![tactic(auto)]
 
 mod causes;

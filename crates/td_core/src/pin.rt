@@ -1,14 +1,14 @@
 //! Pinning a query: its answer over the state of one version, whatever comes after.
-ghost use Rattle.std.specs.Prelude.{◌≡◌, ◌+◌, ◌<◌, ◌^◌, ℕ, List, take, drop, length, IsTrue, IfOk, IfErr, OnErr};
+ghost use Rattle.std.specs.Prelude.{◌≡◌, ◌+◌, ◌<◌, ◌^◌, ℕ, List, take, drop, length, IfOk, IfErr, OnErr};
 ghost use Rattle.td_model.specs.declared.history.Entry.{Entry as AnEntry};
 ghost use Rattle.td_model.specs.declared.history.Verdict.TheVariants.{Pass, Refuse};
 ghost use Rattle.td_model.specs.declared.language.Query.{Query as AQuery};
 ghost use Rattle.td_model.specs.declared.report.Cause.{Cause as ACause};
-ghost use Rattle.td_model.specs.Built.{is_row_query};
 ghost use Rattle.td_model.specs.State.{State, after};
-ghost use Rattle.td_verdict.specs.Answers.{answer, header};
+ghost use Rattle.td_verdict.specs.Answered.{answer};
+ghost use Rattle.td_verdict.specs.Answers.{header};
 ghost use Rattle.td_verdict.specs.Plans.{plan_of};
-ghost use Rattle.td_verdict.specs.Sound.{IsSound};
+ghost use Rattle.td_verdict.specs.Sound.{IsBounded, IsSound};
 ghost use Rattle.td_core.specs.CoreState.{seen};
 ghost use Rattle.td_core.specs.Covers.{FactsAre, RowsAre};
 ghost use Rattle.td_core.specs.Pins.{PinnedQuery, Sees, Holds, met};
@@ -16,11 +16,13 @@ ghost use Rattle.td_core.specs.Pins.{PinnedQuery, Sees, Holds, met};
 use crate::kept::Core;
 use std::alloc::Global;
 use std::marker::Model;
-use td_answer::answer;
-use td_layer::{Cell, Name, NoMem, Roomy, ScanFault, Seq};
+use std::sync::ledger::Ledger;
+use td_answer::answer as row_answer;
+use td_layer::{Cell, Name, NoMem, Roomy, ScanFault, Seq, Steps};
 use td_model::{Cause, Plan, Query};
 use td_outside::{Clock, Store};
-use td_rows::RowTree;
+use td_query::answer as grouped_answer;
+use td_rows::RowView;
 use td_tables::Tables;
 
 /// Room for the readers that a pin takes, a slot each. It is spent by [`Room::done`]. Contracts see the number of its
@@ -72,13 +74,14 @@ pub struct Pinned<S: Store> {
     prefix: u64,
     plan: Plan,
     header: Seq<Name>,
-    rows: RowTree,
+    rows: RowView,
     given: u64,
     room: Room<S>,
 }
 
 impl<S: Store> Model for Pinned<S> {
     ghost use Rattle.td_core.specs.Pins.{PinnedQuery};
+    ghost use Rattle.td_verdict.specs.Sound.{IsBounded};
 
     ghost Value = { PinnedQuery };
 
@@ -90,6 +93,33 @@ impl<S: Store> Model for Pinned<S> {
       given = p.given;
       slots = p.room;
     } };
+
+    ghost invariant = { λ p. IsBounded p.plan };
+}
+
+// The part of the answer of a plan over rows that comes after those given.
+fn answer_part<L: Ledger>(
+    alloc: Global,
+    plan: &Plan,
+    rows: &mut RowView,
+    given: u64,
+    count: u64,
+    steps: &mut Steps<L>,
+) -> Result<Seq<Seq<Cell>>, ScanFault>
+    requires { IsBounded plan.now }
+    ensures part { (q : AQuery) (s : State) → IsSound s → plan.now ≡ plan_of q s.catalog → rows.old ≡ s.rows
+        → IfOk result (λ all. all ≡ take count (drop given (answer q s))) }
+    ensures few { (q : AQuery) (s : State) → IsSound s → plan.now ≡ plan_of q s.catalog → rows.old ≡ s.rows
+        → IfOk result (λ all. length (answer q s) < 2 ^ 63) }
+    ensures rows { rows.new ≡ rows.old }
+    ensures fault { IfErr result (λ f. f ≡ ScanFault.NoMemory) }
+{
+    if plan.query.is_row_query() {
+        let all = row_answer(alloc, plan, rows.rows(), given, count)?;
+        return Ok(all);
+    }
+    let all = grouped_answer(alloc, plan, rows, given, count, steps)?;
+    Ok(all)
 }
 
 impl<S: Store> Pinned<S> {
@@ -109,7 +139,11 @@ impl<S: Store> Pinned<S> {
 
     /// The next `count` rows of the answer, or all that are left. The whole answer has fewer than 2^63 rows. No file is
     /// read so far, so only want of memory can come; it leaves the place.
-    pub fn rows(&mut self, count: u64) -> Result<Seq<Seq<Cell>>, ScanFault>
+    pub fn rows<L: Ledger>(
+        &mut self,
+        count: u64,
+        steps: &mut Steps<L>,
+    ) -> Result<Seq<Seq<Cell>>, ScanFault>
         ensures rows { (q : AQuery) (s : State) (i : ℕ) → Sees self.old q s i
             → IfOk result (λ rows. rows ≡ take count (drop i (answer q s))) }
         ensures moves { (q : AQuery) (s : State) (i : ℕ) → Sees self.old q s i
@@ -120,7 +154,14 @@ impl<S: Store> Pinned<S> {
         ensures slots { self.new.slots ≡ self.old.slots }
         ensures failed { OnErr result (self.new ≡ self.old) }
     {
-        let rows = answer(self.alloc, &self.plan, &self.rows, self.given, count)?;
+        let rows = answer_part(
+            self.alloc,
+            &self.plan,
+            &mut self.rows,
+            self.given,
+            count,
+            steps,
+        )?;
         self.given = self.given.saturating_add(rows.len() as u64);
         Ok(rows)
     }
@@ -155,11 +196,11 @@ pub enum PinEnd<S: Store> {
 struct View {
     plan: Plan,
     header: Seq<Name>,
-    rows: RowTree,
+    rows: RowView,
 }
 
 // The header of a plan's answer, and the rows of the state.
-fn header_and_rows(tables: &Tables, plan: &Plan) -> Result<(Seq<Name>, RowTree), NoMem>
+fn header_and_rows(tables: &Tables, plan: &Plan) -> Result<(Seq<Name>, RowView), NoMem>
     ensures header { (q : AQuery) → plan.now ≡ plan_of q tables.now.state.catalog
         → IfOk result (λ given. given.0 ≡ header q tables.now.state.catalog) }
     ensures rows { IfOk result (λ given. given.1 ≡ tables.now.state.rows) }
@@ -191,14 +232,14 @@ fn view_of(tables: &Tables, plan: Plan) -> Result<View, NoMem>
 }
 
 impl<S: Store, C: Clock> Core<S, C> {
-    // What a row query sees of the state, or the cause for which it is refused there.
+    // What a query sees of the state, or the cause for which it is refused there.
     fn view(&self, query: &Query) -> Result<Result<View, Cause>, NoMem>
-        requires { IsTrue (is_row_query query.now) }
         ensures refused { IfOk result (λ answer. IfErr answer (λ cause. met query.now self.now.state ≡ Refuse cause)) }
         ensures passes { IfOk result (λ answer. IfOk answer (λ _. met query.now self.now.state ≡ Pass)) }
         ensures plan { IfOk result (λ answer. IfOk answer (λ v. v.plan ≡ plan_of query.now self.now.state.catalog)) }
         ensures header { IfOk result (λ answer. IfOk answer (λ v. v.header ≡ header query.now self.now.state.catalog)) }
         ensures rows { IfOk result (λ answer. IfOk answer (λ v. v.rows ≡ self.now.state.rows)) }
+        ensures bounded { IfOk result (λ answer. IfOk answer (λ v. IsBounded v.plan)) }
         ensures sound { IsSound self.now.state }
     {
         self.tables.is_sound();
@@ -210,10 +251,9 @@ impl<S: Store, C: Clock> Core<S, C> {
         Ok(Ok(view))
     }
 
-    /// Pins a row query: it is judged in the state as it is, and where it passes it sees that state from then on. The
+    /// Pins a query: it is judged in the state as it is, and where it passes it sees that state from then on. The
     /// core stays as it is. `Short` and `StoreFault` don't come, since a store has no files so far.
     pub fn pin(&mut self, query: &Query, room: Room<S>) -> PinEnd<S>
-        requires { IsTrue (is_row_query query.now) }
         ensures core { self.new ≡ self.old }
         ensures passes { (p : PinnedQuery) → result ≡ PinEnd.Pinned p → met query.now self.old.state ≡ Pass }
         ensures sees { (p : PinnedQuery) → result ≡ PinEnd.Pinned p → Sees p query.now self.old.state 0 }

@@ -13,9 +13,9 @@ use Rattle.td_model.specs.declared.plan.Plan.{Plan}
 use Rattle.td_model.specs.Catalog.{Catalog, table_named, stable_named}
 use Rattle.td_verdict.specs.declared.comparison.Comparison.{Comparison}
 use Rattle.td_verdict.specs.Fields.{comparisons_of}
-use Rattle.td_verdict.specs.Queries.{source_by, source_schema}
+use Rattle.td_verdict.specs.Queries.{source_by, source_schema, reads_table}
 use Rattle.td_verdict.specs.Plans.{Numbered, numbered, is_read, planned, plan_of, is_of_table, reads_one}
-use Rattle.td_verdict.specs.Answers.{reads_table, header_over, header}
+use Rattle.td_verdict.specs.Answers.{header_over, header}
 
 names : List Numbered → List (List ℕ)
 names es = map (λ (e : Numbered). e.1.name) es

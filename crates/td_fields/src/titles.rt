@@ -4,12 +4,12 @@ ghost use Rattle.td_model.specs.declared.language.Query.{Query};
 ghost use Rattle.td_model.specs.Catalog.{Catalog};
 ghost use Rattle.td_verdict.specs.Plans.{plan_of};
 ghost use Rattle.td_verdict.specs.Names.{names_of};
-ghost use Rattle.td_verdict.specs.Answers.{star_fields, item_text, item_title, header_over, header};
+ghost use Rattle.td_verdict.specs.Answers.{star_fields, func_text, item_text, item_title, header_over, header};
 
 use crate::fields::reads_one;
 use crate::names::add_names;
 use std::alloc::Global;
-use td_layer::{Copied, Name, NoMem, Seq};
+use td_layer::{Copied, Func, Name, NoMem, Seq};
 use td_model::{Item, ItemKind, Plan, Query, Schema};
 
 // The names of what `*` shows of a row.
@@ -24,20 +24,44 @@ fn star_names(alloc: Global, is_table: bool, schema: &Schema) -> Result<Seq<Name
     Ok(names)
 }
 
+// An aggregate's name.
+fn func_text(func: Func) -> &'static [u8]
+    ensures { result.now ≡ func_text func }
+{
+    match func {
+        Func::Count => b"COUNT",
+        Func::Sum => b"SUM",
+        Func::Min => b"MIN",
+        Func::Max => b"MAX",
+        Func::Avg => b"AVG",
+        Func::First => b"FIRST",
+        Func::Last => b"LAST",
+        Func::Spread => b"SPREAD",
+    }
+}
+
+// An aggregate's name with that of its column, as `AVG(voltage)`.
+fn call_text(alloc: Global, func: Func, column: &Name) -> Result<Name, NoMem>
+    ensures { IfOk result (λ name. name ≡ item_text (ItemKind.Fun func column.now)) }
+{
+    let mut name = Seq::of_bytes(alloc, func_text(func))?;
+    name.extend(b"(")?;
+    name.extend(column.as_slice())?;
+    name.extend(b")")?;
+    Ok(name)
+}
+
 // The name of an item.
 fn item_text(alloc: Global, what: &ItemKind) -> Result<Name, NoMem>
     ensures { IfOk result (λ name. name ≡ item_text what.now) }
 {
     match what {
-        ItemKind::TbName => {
-            let name = Seq::of_bytes(alloc, b"TBNAME")?;
-            Ok(name)
-        }
-        ItemKind::Col(name) => {
-            let name = name.copy()?;
-            Ok(name)
-        }
-        _ => Ok(Seq::new(alloc)),
+        ItemKind::TbName => Ok(Seq::of_bytes(alloc, b"TBNAME")?),
+        ItemKind::WStart => Ok(Seq::of_bytes(alloc, b"_wstart")?),
+        ItemKind::WEnd => Ok(Seq::of_bytes(alloc, b"_wend")?),
+        ItemKind::CountAll => Ok(Seq::of_bytes(alloc, b"COUNT(*)")?),
+        ItemKind::Col(name) => Ok(name.copy()?),
+        ItemKind::Fun(func, column) => Ok(call_text(alloc, *func, column)?),
     }
 }
 

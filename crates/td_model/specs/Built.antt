@@ -40,7 +40,6 @@ is_row_query q =
 -- the statements that are built; the others are refused as not built
 abbrev pub is_built : Stmt → Bool
 is_built (stmt.MakeStream def) = false
-is_built (stmt.Select query) = is_row_query query
 is_built (stmt.OpenCursor cursor query) = false
 is_built (stmt.Fetch cursor rows) = false
 is_built (stmt.CloseCursor cursor) = false

@@ -5,6 +5,7 @@ use Rattle.std.specs.Fmt.{decimal, signed_decimal}
 use lib.Chars.{codes}
 use Rattle.td_layer.specs.declared.values.Cell.{Cell}
 use Rattle.td_layer.specs.declared.values.Cell.TheVariants.{Null, Truth, Num, Frac, Str}
+use Rattle.td_limits.specs.declared.limits.TheConstants.{LAST_VERSION}
 use Rattle.td_model.specs.declared.report.Cause.{Cause}
 use Rattle.td_model.specs.declared.report.Cause.TheVariants as cause
 use Rattle.td_model.specs.declared.report.Many.{Many}
@@ -32,7 +33,7 @@ cause_text cause.NameTooLong = codes "NameTooLong"
 cause_text cause.TypeNotBuilt = codes "TypeNotBuilt"
 cause_text cause.OptionNotBuilt = codes "OptionNotBuilt"
 cause_text (cause.Stopped version) = codes "Stopped " ++ decimal version
-cause_text cause.TooManyVersions = codes "TooMany versions 281474976710654"
+cause_text cause.TooManyVersions = codes "TooMany versions " ++ decimal LAST_VERSION
 cause_text cause.UnknownTable = codes "UnknownTable"
 cause_text cause.UnknownStable = codes "UnknownStable"
 cause_text cause.UnknownStream = codes "UnknownStream"

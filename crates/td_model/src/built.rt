@@ -63,7 +63,6 @@ impl Stmt {
         ensures { result ≡ is_built self.now }
     {
         match self {
-            Stmt::Select(query) => query.is_row_query(),
             Stmt::MakeStream(_)
             | Stmt::OpenCursor { .. }
             | Stmt::Fetch { .. }

@@ -20,6 +20,7 @@ use Rattle.td_verdict.specs.Causes.{when, first_cause}
 use Rattle.td_verdict.specs.Names.{is_taken, is_stable, is_target, stands_twice, lacks_time, is_first, column_named}
 use Rattle.td_verdict.specs.Fields.{fields, part_column}
 use Rattle.td_verdict.specs.Queries as queries
+use Rattle.td_verdict.specs.Refusals.{is_bad_selection, is_bad_window}
 use Rattle.td_verdict.specs.Values.{has_width, number_at, suits}
 use Rattle.td_verdict.specs.Writes as writes
 use Rattle.td_printed.specs.Names.{IsName, AreNamed}
@@ -217,14 +218,16 @@ at_prints None c h = tt
 at_prints (Some column) c h = if_when IsPrintableCause (not (suits column.kind 0 c.lit))
     (cause.TypeMismatch column.name) h
 
-body_prints : (s : Schema) (q : Query) → SchemaHasWords s → Prints (queries.body_cause s q)
-body_prints s q h =
+body_prints : (of_table : Bool) (s : Schema) (q : Query) → SchemaHasWords s
+    → Prints (queries.body_cause of_table s q)
+body_prints of_table s q h =
     let wrong : Cond → Option Cause = λ c. queries.mismatch_at (part_column s c.of) c in
     first_prints (
     item (queries.has_unknown s q) cause.UnknownColumn tt
     ∷ found (queries.mismatch_cause s q.conds)
     (if_given IsPrintableCause wrong q.conds (λ c. at_prints (part_column s c.of) c (part_named s c.of h)))
-    ∷ item (queries.is_bad_selection s q) cause.BadSelect tt
+    ∷ item (is_bad_selection s q) cause.BadSelect tt
+    ∷ item (is_bad_window of_table s q q.window) cause.BadWindow tt
     ∷ item (queries.is_bad_limit q) cause.BadLimit tt
     ∷ [])
 
@@ -237,5 +240,5 @@ source_prints q c =
 pub query_prints : (q : Query) (c : Catalog) → SchemaHasWords (queries.source_schema q.source c)
     → Prints (queries.query_cause q c)
 query_prints q c h = if_either IsPrintableCause (queries.source_cause q c)
-    (queries.body_cause (queries.source_schema q.source c) q) (source_prints q c)
-    (body_prints (queries.source_schema q.source c) q h)
+    (queries.body_cause (queries.reads_table q c) (queries.source_schema q.source c) q) (source_prints q c)
+    (body_prints (queries.reads_table q c) (queries.source_schema q.source c) q h)

@@ -1,29 +1,25 @@
 -- The items of an answer's header can be printed.
-use Rattle.std.proofs.Common.{◌≡◌, ℕ, Bool, true, false, cond, ◌&&◌, ◌==◌, List, [], ◌∷◌, length, map, Option, Some, None, refl, ap, ◌∙◌, arith}
-use Rattle.std.specs.Prelude.{IfSome, not}
-use Rattle.std.specs.List.{AllByRecursion, list_all, list_any}
-use Rattle.std.proofs.lemmas.Bool.{and_parts, or_parts}
+use Rattle.std.proofs.Common.{◌≡◌, ℕ, ◌<◌, Bool, true, false, cond, ◌&&◌, List, [], ◌∷◌, ◌++◌, length, map, Option, Some, None, refl, ap, ◌∙◌, arith}
+use Rattle.std.specs.Prelude.{IfSome}
+use Rattle.std.specs.List.{AllByRecursion, list_all}
+use Rattle.std.proofs.lemmas.Bool.{and_parts}
 use Rattle.std.proofs.lemmas.Bool.Decides.{nat_tests}
-use Rattle.std.specs.Option.{option_or}
+use lib.Chars.{codes}
+use Rattle.td_layer.specs.declared.values.Func.{Func}
+use Rattle.td_layer.specs.declared.values.Func.TheVariants.{Count, Sum, Min, Max, Avg, First, Last, Spread}
 use Rattle.td_model.specs.declared.catalog.Column.{Column}
 use Rattle.td_model.specs.declared.catalog.Schema.{Schema}
-use Rattle.td_model.specs.declared.history.Verdict.{Verdict}
-use Rattle.td_model.specs.declared.history.Verdict.TheVariants.{Pass, Refuse}
 use Rattle.td_model.specs.declared.language.Item.{Item}
 use Rattle.td_model.specs.declared.language.ItemKind.{ItemKind}
 use Rattle.td_model.specs.declared.language.ItemKind.TheVariants as item
 use Rattle.td_model.specs.declared.language.Query.{Query}
-use Rattle.td_model.specs.declared.report.Cause.{Cause}
-use Rattle.td_model.specs.declared.report.Cause.TheVariants as cause
-use Rattle.td_model.specs.Built.{is_aggregate, is_whole, is_row_query}
 use Rattle.td_model.specs.Catalog.{Catalog}
 use Rattle.td_model.specs.Printable.{is_word_byte, is_item_byte, IsItem}
-use Rattle.td_verdict.specs.Answers.{star_fields, item_text, item_title, reads_table, header}
-use Rattle.td_verdict.specs.Causes.{when, first_cause}
+use Rattle.td_verdict.specs.Answers.{star_fields, func_text, item_text, item_title, header}
 use Rattle.td_verdict.specs.Names.{names_of}
-use Rattle.td_verdict.specs.Queries.{needs_window, is_order_other, is_bad_selection, is_bad_limit, has_unknown, mismatch_cause, source_schema, source_cause, body_cause, query_cause, passes_or}
+use Rattle.td_verdict.specs.Queries.{reads_table, source_schema}
 use Rattle.td_printed.specs.Names.{IsName, AreNamed, IsNamedKind, IsNamedItem, QueryHasWords, AreWords}
-use Rattle.td_printed.proofs.Lists.{either_value, all_mapped, none_of_first, none_of_others, none_when}
+use Rattle.td_printed.proofs.Lists.{either_value, all_mapped}
 use Rattle.td_printed.proofs.Schemas.{SchemaHasWords, source_named_schema, fields_named}
 
 -- ---- names as items
@@ -40,64 +36,57 @@ item_bytes (b ∷ bs) h =
 name_item : (name : List ℕ) → IsName name → IsItem name
 name_item name h = record { some = h.some; bytes = item_bytes name h.word }
 
+-- ---- the names of aggregates
+
+joined_bytes : (xs ys : List ℕ) → list_all is_item_byte xs ≡ true → list_all is_item_byte ys ≡ true
+    → list_all is_item_byte (xs ++ ys) ≡ true
+joined_bytes [] ys h k = k
+joined_bytes (x ∷ xs) ys h k =
+    let p = and_parts (is_item_byte x) (list_all is_item_byte xs) h in
+    ap (λ c. c && list_all is_item_byte (xs ++ ys)) p.0 ∙ joined_bytes xs ys p.1 k
+
+joined_some : (xs ys : List ℕ) → 0 < length xs → 0 < length (xs ++ ys)
+joined_some [] ys h = absurd (omega (arith, h))
+joined_some (x ∷ xs) ys h = omega arith
+
+func_item : (f : Func) → IsItem (func_text f)
+func_item Count = record { some = omega arith; bytes = refl }
+func_item Sum = record { some = omega arith; bytes = refl }
+func_item Min = record { some = omega arith; bytes = refl }
+func_item Max = record { some = omega arith; bytes = refl }
+func_item Avg = record { some = omega arith; bytes = refl }
+func_item First = record { some = omega arith; bytes = refl }
+func_item Last = record { some = omega arith; bytes = refl }
+func_item Spread = record { some = omega arith; bytes = refl }
+
+call_item : (f : Func) (name : List ℕ) → IsName name → IsItem (item_text (item.Fun f name))
+call_item f name h =
+    let is : IsItem (func_text f) = func_item f in
+    record {
+      some = joined_some (func_text f ++ codes "(" ++ name) (codes ")")
+          (joined_some (func_text f ++ codes "(") name (joined_some (func_text f) (codes "(") is.some));
+      bytes = joined_bytes (func_text f ++ codes "(" ++ name) (codes ")")
+          (joined_bytes (func_text f ++ codes "(") name (joined_bytes (func_text f) (codes "(") is.bytes refl)
+          (item_bytes name h.word)) refl;
+    }
+
 -- ---- the titles of a select list
 
-text_item : (k : ItemKind) → IsNamedKind k → needs_window k ≡ false → is_aggregate k ≡ false → IsItem (item_text k)
-text_item (item.Col name) h w a = name_item name h
-text_item item.TbName h w a = record { some = omega arith; bytes = refl }
-text_item item.WStart h w a = absurd (cc)
-text_item item.WEnd h w a = absurd (cc)
-text_item item.CountAll h w a = absurd (cc)
-text_item (item.Fun func name) h w a = absurd (cc)
+text_item : (k : ItemKind) → IsNamedKind k → IsItem (item_text k)
+text_item (item.Col name) h = name_item name h
+text_item item.TbName h = record { some = omega arith; bytes = refl }
+text_item item.WStart h = record { some = omega arith; bytes = refl }
+text_item item.WEnd h = record { some = omega arith; bytes = refl }
+text_item item.CountAll h = record { some = omega arith; bytes = refl }
+text_item (item.Fun func name) h = call_item func name h
 
 alias_item : (alias : Option (List ℕ)) → IfSome alias IsName → IfSome alias IsItem
 alias_item None h = tt
 alias_item (Some name) h = name_item name h
 
-titles_print : (items : List Item) → AllByRecursion IsNamedItem items
-    → list_any (λ (i : Item). needs_window i.what) items ≡ false
-    → list_any (λ (i : Item). is_aggregate i.what) items ≡ false → AllByRecursion IsItem (map item_title items)
-titles_print [] h w a = tt
-titles_print (i ∷ items) h w a =
-    let p = or_parts (needs_window i.what) (list_any (λ (i : Item). needs_window i.what) items) w in
-    let q = or_parts (is_aggregate i.what) (list_any (λ (i : Item). is_aggregate i.what) items) a in (
-      either_value IsItem i.alias (item_text i.what) (alias_item i.alias h.0.alias)
-          (text_item i.what h.0.what p.0 q.0),
-      titles_print items h.1 p.1 q.1,
-    )
-
--- ---- what passes
-
-passes : (b : Bool) (why : Option Cause)
-    → (let v : Verdict = Pass in v ≡ cond b (passes_or why) (Refuse cause.OptionNotBuilt)) → (b ≡ true) × (why ≡ None)
-passes true None h = (refl, refl)
-passes true (Some why) h = absurd (cc)
-passes false why h = absurd (cc)
-
-false_of_not : (b : Bool) → not b ≡ true → b ≡ false
-false_of_not true h = absurd (cc)
-false_of_not false h = refl
-
-row_query_plain : (q : Query) → is_row_query q ≡ true → list_any (λ (i : Item). is_aggregate i.what) q.items ≡ false
-row_query_plain q h =
-    let plain : Bool = not (list_any (λ (i : Item). is_aggregate i.what) q.items) in
-    let p = and_parts (plain && is_whole q.window) (length q.parts == 0) h in
-    false_of_not (list_any (λ (i : Item). is_aggregate i.what) q.items) (and_parts plain (is_whole q.window) p.0).0
-
-second_none : (o p : Option Cause) → (let a : Option Cause = option_or o p in a ≡ None) → p ≡ None
-second_none None p h = h
-second_none (Some why) p h = absurd (cc)
-
-body_plain : (s : Schema) (q : Query) → body_cause s q ≡ None → list_any (λ (i : Item). needs_window i.what) q.items
-    ≡ false
-body_plain s q h =
-    let last : List (Option Cause) = when (is_bad_limit q) cause.BadLimit ∷ [] in
-    let bad : Option Cause = when (is_bad_selection s q) cause.BadSelect in
-    let some : Option Cause = mismatch_cause s q.conds in
-    let third : first_cause (bad ∷ last) ≡ None = none_of_others some (bad ∷ last)
-    (none_of_others (when (has_unknown s q) cause.UnknownColumn) (some ∷ bad ∷ last) h) in
-    (or_parts (list_any (λ (i : Item). needs_window i.what) q.items) (is_order_other s.columns q.order)
-    (none_when (is_bad_selection s q) cause.BadSelect (none_of_first bad last third))).0
+titles_print : (items : List Item) → AllByRecursion IsNamedItem items → AllByRecursion IsItem (map item_title items)
+titles_print items h = all_mapped IsNamedItem IsItem item_title items
+    (λ i n. either_value IsItem i.alias (item_text i.what) (alias_item i.alias n.alias) (text_item i.what n.what)) h
 
 -- ---- the header
 
@@ -115,13 +104,8 @@ over_prints : (star : Bool) (columns : List Column) (items : List Item) → AreN
 over_prints true columns items h t = names_print columns h
 over_prints false columns items h t = t
 
-pub header_prints : (q : Query) (c : Catalog) → QueryHasWords q → AreWords c
-    → (let v : Verdict = Pass in v ≡ cond (is_row_query q) (passes_or (query_cause q c))
-    (Refuse cause.OptionNotBuilt)) → AllByRecursion IsItem (header q c)
-header_prints q c h words pass =
+pub header_prints : (q : Query) (c : Catalog) → QueryHasWords q → AreWords c → AllByRecursion IsItem (header q c)
+header_prints q c h words =
     let s : Schema = source_schema q.source c in
-    let p = passes (is_row_query q) (query_cause q c) pass in
-    let windows = body_plain s q (second_none (source_cause q c) (body_cause s q) p.1) in
     over_prints q.star (star_fields (reads_table q c) s) q.items
-    (star_named (reads_table q c) s (source_named_schema c q.source words))
-    (titles_print q.items h.items windows (row_query_plain q p.0))
+    (star_named (reads_table q c) s (source_named_schema c q.source words)) (titles_print q.items h.items)

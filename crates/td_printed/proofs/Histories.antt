@@ -7,15 +7,12 @@ use Rattle.td_model.specs.declared.history.Entry.{Entry}
 use Rattle.td_model.specs.declared.history.Verdict.{Verdict}
 use Rattle.td_model.specs.declared.history.Verdict.TheVariants.{Accept, Pass, Refuse}
 use Rattle.td_model.specs.declared.history.What.{What}
-use Rattle.td_model.specs.declared.history.What.TheVariants as what
 use Rattle.td_model.specs.declared.language.Stmt.{Stmt}
 use Rattle.td_model.specs.declared.language.Stmt.TheVariants as stmt
 use Rattle.td_model.specs.declared.report.Cause.{Cause}
-use Rattle.td_model.specs.declared.report.Cause.TheVariants as cause
 use Rattle.td_model.specs.declared.report.JournalLine.{JournalLine}
 use Rattle.td_model.specs.declared.report.Mark.{Mark}
 use Rattle.td_model.specs.declared.report.Mark.TheVariants as mark
-use Rattle.td_model.specs.Built.{is_row_query}
 use Rattle.td_model.specs.Printable.{IsCount}
 use Rattle.td_model.specs.State.{State, newest, step, trail, at}
 use Rattle.td_model.proofs.Steps.{step_version}
@@ -30,7 +27,7 @@ use Rattle.td_told.specs.Turn.{entry_at}
 use Rattle.td_told.specs.Verdict.{verdict, closed_cause}
 use Rattle.td_printed.specs.Names.{HasWords, AreWords, IsCounted, IsCountedEntry}
 use Rattle.td_printed.proofs.Kept.{entry_keeps}
-use Rattle.td_printed.proofs.Counted.{VerdictCounts, verdict_counts, effect_counted, begun}
+use Rattle.td_printed.proofs.Counted.{VerdictCounts, verdict_counts, accepted_counted, halted_counted}
 
 abbrev pub HaveWords : List Asked → Type 0
 HaveWords script = AllByRecursion (λ (a : Asked). HasWords a.stmt) script
@@ -96,7 +93,7 @@ given_fits past j e g moment fit =
     (verdict_counts g.stmt s j.moment fit.counted moment) in
     subst (λ (x : Entry). Fit (step past x)) g.entry (record {
       words = entry_keeps g.stmt s [] j.moment g.what g.rows past begins g.words fit.words refl g.judged;
-      counted = effect_counted past g.what begins counts.1 (begun s j.moment fit.counted counts.0);
+      counted = accepted_counted past g.what g.rows s j.moment fit.counted counts;
     })
 
 step_fits : (past : List State) (script : List Asked) (j : JournalLine) (m : Mark) (later : List JournalLine)
@@ -105,11 +102,9 @@ step_fits : (past : List State) (script : List Asked) (j : JournalLine) (m : Mar
 step_fits past script j mark.Plain later e words moment next fit is =
     given_fits past j e (given (newest past) script j e words is) moment fit
 step_fits past script j mark.Halt later e words moment next fit is =
-    let s : State = newest past in
-    let begins : State = record s { version = s.version + 1; moment = j.moment } in
     subst (λ (x : Entry). Fit (step past x)) (sym is.2) (record {
       words = fit.words;
-      counted = effect_counted past what.Halt begins tt (begun s j.moment fit.counted next);
+      counted = halted_counted past (newest past) j.moment fit.counted next;
     })
 step_fits past script j (mark.Step stream upto moment) later e words at_moment next fit is = absurd is
 
@@ -134,11 +129,9 @@ written : (why : Option Cause) (v : Verdict) (w : What) (rows : ℕ) → refused
 written None v w rows h = h
 written (Some cause) v w rows h = absurd (cc)
 
-none_passes : (b : Bool) (why : Option Cause) (w : What) (rows : ℕ)
-    → cond b (passes_or why) (Refuse cause.OptionNotBuilt) ≡ Accept w rows → ⊥
-none_passes true None w rows h = cc
-none_passes true (Some why) w rows h = cc
-none_passes false why w rows h = cc
+none_passes : (why : Option Cause) (w : What) (rows : ℕ) → passes_or why ≡ Accept w rows → ⊥
+none_passes None w rows h = cc
+none_passes (Some why) w rows h = cc
 
 pub write_of : (q : Stmt) (s : State) (moment : ℕ) (w : What) (rows : ℕ) → verdict q s [] moment ≡ Accept w rows
     → write_verdict q s.catalog s.edge moment ≡ Accept w rows
@@ -157,7 +150,7 @@ write_of (stmt.DropStream name) s moment w rows h = written (closed_cause s)
 write_of stmt.Trim s moment w rows h = written (closed_cause s) (write_verdict stmt.Trim s.catalog s.edge moment) w
     rows h
 write_of (stmt.Select query) s moment w rows h =
-    absurd (none_passes (is_row_query query) (query_cause query s.catalog) w rows h)
+    absurd (none_passes (query_cause query s.catalog) w rows h)
 write_of _ s moment w rows h = absurd (cc)
 
 step_legal : (s : State) (script : List Asked) (j : JournalLine) (m : Mark) (later : List JournalLine) (e : Entry)

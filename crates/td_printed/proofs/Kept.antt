@@ -3,6 +3,7 @@ use Rattle.std.proofs.Common.{◌≡◌, ℕ, ◌+◌, ℤ, pos, Bool, true, fal
 use Rattle.std.specs.Prelude.{IfSome, int_lt, not, ◌==◌, filter}
 use Rattle.std.specs.Int.{int_min, int_max}
 use Rattle.std.specs.List.{AllByRecursion}
+use Rattle.std.proofs.lemmas.Bool.{or_parts}
 use Rattle.td_limits.specs.declared.limits.TheConstants.{LAST_TIMESTAMP}
 use Rattle.td_model.specs.declared.catalog.Column.{Column}
 use Rattle.td_model.specs.declared.catalog.StreamEntry.{StreamEntry}
@@ -15,10 +16,9 @@ use Rattle.td_model.specs.declared.language.Lit.{Lit}
 use Rattle.td_model.specs.declared.language.Stmt.{Stmt}
 use Rattle.td_model.specs.declared.language.Stmt.TheVariants as stmt
 use Rattle.td_model.specs.declared.report.Cause.{Cause}
-use Rattle.td_model.specs.declared.report.Cause.TheVariants.{OptionNotBuilt}
-use Rattle.td_model.specs.Built.{is_built}
 use Rattle.td_model.specs.Catalog.{Catalog, table_at, table_named}
 use Rattle.td_model.specs.State.{State, parent_of, latest_raised, row_put, put_one, put_all, effect}
+use Rattle.td_parse.specs.Statements.{any_wide, any_wide_tag}
 use Rattle.td_verdict.specs.Causes.{accepted_or, first_cause}
 use Rattle.td_verdict.specs.Names.{number_or_none, table_schema}
 use Rattle.td_verdict.specs.Queries.{passes_or, query_cause}
@@ -32,8 +32,9 @@ use Rattle.td_printed.proofs.Says.{all_append}
 -- ---- what an entry names
 
 abbrev pub WhatHasWords : What → Type 0
-WhatHasWords (what.MakeStable name schema) = IsName name × AreNamed schema.columns × AreNamed schema.tags
-WhatHasWords (what.MakeTable name columns) = IsName name × AreNamed columns
+WhatHasWords (what.MakeStable name schema) =
+    IsName name × AreNamed schema.columns × AreNamed schema.tags × (any_wide schema.columns ≡ false)
+WhatHasWords (what.MakeTable name columns) = IsName name × AreNamed columns × (any_wide columns ≡ false)
 WhatHasWords (what.MakeSub name stable tags) = IsName name
 WhatHasWords (what.MakeStream def) = StreamHasWords def
 WhatHasWords _ = Unit {0}
@@ -51,16 +52,16 @@ refused : (why : Option Cause) (v : Verdict) → AcceptsWords v → AcceptsWords
 refused None v h = h
 refused (Some cause) v h = tt
 
-passed : (b : Bool) (why : Option Cause) → AcceptsWords (cond b (passes_or why) (Refuse OptionNotBuilt))
-passed true None = tt
-passed true (Some cause) = tt
-passed false why = tt
+passed : (why : Option Cause) → AcceptsWords (passes_or why)
+passed None = tt
+passed (Some cause) = tt
 
 stable_accepted : (name : List ℕ) (columns : List Column) (tags : Option (List Column)) (c : Catalog) → IsName name
-    → AreNamed columns → IfSome tags AreNamed → AcceptsWords (writes.make_stable_verdict name columns tags c)
-stable_accepted name columns None c n m k = tt
-stable_accepted name columns (Some tags) c n m k = accepted (writes.definition_cause name columns tags c) _ 0
-    (n, m, k)
+    → AreNamed columns → IfSome tags AreNamed → any_wide columns ≡ false
+    → AcceptsWords (writes.make_stable_verdict name columns tags c)
+stable_accepted name columns None c n m k types = tt
+stable_accepted name columns (Some tags) c n m k types = accepted (writes.definition_cause name columns tags c) _ 0
+    (n, m, k, types)
 
 insert_accepted : (table : List ℕ) (columns : List Column) (names : Option (List (List ℕ))) (groups : List (List Lit))
     (edge moment : ℕ) (c : Catalog) → AcceptsWords (writes.insert_in table columns names groups edge moment c)
@@ -90,11 +91,13 @@ pub accepts_words : (q : Stmt) (s : State) (cursors : List (List ℕ)) (moment :
     → AcceptsWords (verdict q s cursors moment)
 accepts_words (stmt.Wrong cause) s cursors moment h = tt
 accepts_words (stmt.MakeStable name columns tags) s cursors moment h = refused (closed_cause s) _
-    (stable_accepted name columns tags s.catalog h.0 h.1 h.2)
+    (stable_accepted name columns tags s.catalog h.names.0 h.names.1 h.names.2
+    (or_parts (any_wide columns) (any_wide_tag tags) h.types).0)
 accepts_words (stmt.MakeTable name columns) s cursors moment h = refused (closed_cause s) _
-    (accepted (writes.definition_cause name columns [] s.catalog) (what.MakeTable name columns) 0 h)
+    (accepted (writes.definition_cause name columns [] s.catalog) (what.MakeTable name columns) 0
+    (h.names.0, h.names.1, h.types))
 accepts_words (stmt.MakeSub name stable tags) s cursors moment h = refused (closed_cause s)
-    (write_verdict (stmt.MakeSub name stable tags) s.catalog s.edge moment) (accepted _ _ 0 h.0)
+    (write_verdict (stmt.MakeSub name stable tags) s.catalog s.edge moment) (accepted _ _ 0 h.names.0)
 accepts_words (stmt.Insert table columns rows) s cursors moment h = refused (closed_cause s) _
     (insert_accepted table (table_schema (table_named table s.catalog) s.catalog).columns columns rows s.edge moment
     s.catalog)
@@ -105,8 +108,7 @@ accepts_words (stmt.MakeStream def) s cursors moment h = tt
 accepts_words (stmt.DropStream name) s cursors moment h = refused (closed_cause s)
     (writes.drop_stream_verdict name s.catalog) (accepted _ _ 0 tt)
 accepts_words stmt.Trim s cursors moment h = refused (closed_cause s) (writes.trim_verdict s.edge moment) tt
-accepts_words (stmt.Select query) s cursors moment h = passed (is_built (stmt.Select query))
-    (query_cause query s.catalog)
+accepts_words (stmt.Select query) s cursors moment h = passed (query_cause query s.catalog)
 accepts_words (stmt.OpenCursor cursor query) s cursors moment h = tt
 accepts_words (stmt.Fetch cursor rows) s cursors moment h = tt
 accepts_words (stmt.CloseCursor cursor) s cursors moment h = tt
@@ -139,7 +141,8 @@ effect_keeps : (past : List State) (w : What) (s : State) → WhatHasWords w →
     → AreWords (effect past w s).catalog
 effect_keeps past (what.MakeStable name schema) s h c =
     record {
-      stables = all_append _ s.catalog.stables _ c.stables (record { name = h.0; columns = h.1; tags = h.2 }, tt);
+      stables = all_append _ s.catalog.stables _ c.stables
+          (record { name = h.0; columns = h.1; tags = h.2; types = h.3 }, tt);
       tables = c.tables;
       streams = c.streams;
     }
@@ -147,13 +150,13 @@ effect_keeps past (what.MakeTable name columns) s h c =
     record {
       stables = c.stables;
       tables = all_append _ s.catalog.tables _ c.tables
-          (record { name = h.0; columns = h.1 }, tt);
+          (record { name = h.0; columns = h.1; types = h.2 }, tt);
       streams = c.streams;
     }
 effect_keeps past (what.MakeSub name stable tags) s h c =
     record {
       stables = c.stables;
-      tables = all_append _ s.catalog.tables _ c.tables (record { name = h; columns = tt }, tt);
+      tables = all_append _ s.catalog.tables _ c.tables (record { name = h; columns = tt; types = refl }, tt);
       streams = c.streams;
     }
 effect_keeps past (what.Put puts) s h c = subst AreWords (sym (puts_catalog puts s)) c

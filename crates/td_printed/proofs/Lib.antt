@@ -8,9 +8,14 @@ pub mod Kept
 pub mod Lists
 pub mod Schemas
 pub mod Causes
+pub mod Numbers
 pub mod Cells
 pub mod Headers
 pub mod Rows
+pub mod Groups
+pub mod Windows
+pub mod Shown
+pub mod Answered
 pub mod Replies
 pub mod Counted
 pub mod Histories

@@ -1,6 +1,10 @@
 -- What holds of all items of a list, and of what is found among them.
-use Rattle.std.proofs.Common.{◌≡◌, ℕ, zero, suc, Bool, true, false, cond, List, [], ◌∷◌, Option, Some, None, refl}
-use Rattle.std.specs.Prelude.{IfSome, slice_get, map}
+use Rattle.std.proofs.Common.{◌≡◌, ℕ, zero, suc, ◌+◌, ◌≤◌, Bool, true, false, cond, List, [], ◌∷◌, length, Option, Some, None, refl, arith}
+use Rattle.std.specs.Prelude.{IfSome, slice_get, map, filter}
+use Rattle.std.specs.declared.cmp.Ordering.{Ordering}
+use Rattle.std.specs.declared.cmp.Ordering.TheVariants.{Less, Equal, Greater}
+use Rattle.std.specs.Ordering.{match_ordering}
+use Rattle.std.specs.BTreeMap.{insert_entry}
 use Rattle.std.specs.List.{AllByRecursion, find, zip, filter_map, cons_option}
 use Rattle.std.specs.Option.{option_map, option_or, unwrap_or}
 use Rattle.td_verdict.specs.Writes.{first_given}
@@ -57,6 +61,28 @@ pub all_mapped : {X Y : Type 0} (P : X → Type 0) (Q : Y → Type 0) (f : X →
 all_mapped P Q f [] k h = tt
 all_mapped P Q f (x ∷ xs) k h = (k x h.0, all_mapped P Q f xs k h.1)
 
+-- ---- how many there are
+
+pub length_filtered : {X : Type 0} (keep : X → Bool) (xs : List X) → length (filter keep xs) ≤ length xs
+length_filtered keep [] = omega arith
+length_filtered keep (x ∷ xs) =
+    let rest = length_filtered keep xs in
+    elim (keep x) as (λ b. length (cond b (x ∷ filter keep xs) (filter keep xs)) ≤ length (x ∷ xs))
+    [ true ↦ omega (arith, rest) | false ↦ omega (arith, rest) ]
+
+pub length_inserted : {K X : Type 0} (cmp : K → K → Ordering) (es : List (K × X)) (k : K) (x : X)
+    → length (insert_entry cmp es k x) ≤ length es + 1
+length_inserted cmp [] k x = omega arith
+length_inserted cmp (e ∷ es) k x =
+    let rest = length_inserted cmp es k x in
+    elim (cmp k e.0) as
+    (λ o. length (match_ordering o ((k, x) ∷ e ∷ es) ((e.0, x) ∷ es) (e ∷ insert_entry cmp es k x))
+    ≤ length (e ∷ es) + 1) [
+      | Less ↦ omega arith
+      | Equal ↦ omega arith
+      | Greater ↦ omega (arith, rest)
+    ]
+
 -- ---- causes
 
 pub if_when : (P : Cause → Type 0) (b : Bool) (cause : Cause) → P cause → IfSome (when b cause) P
@@ -82,3 +108,7 @@ none_of_others (Some cause) causes h = absurd (cc)
 pub none_when : (b : Bool) (cause : Cause) → when b cause ≡ None → b ≡ false
 none_when true cause h = absurd (cc)
 none_when false cause h = refl
+
+pub second_none : (o p : Option Cause) → (let a : Option Cause = option_or o p in a ≡ None) → p ≡ None
+second_none None p h = h
+second_none (Some why) p h = absurd (cc)

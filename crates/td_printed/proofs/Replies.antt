@@ -16,7 +16,6 @@ use Rattle.td_model.specs.declared.language.Stmt.TheVariants as stmt
 use Rattle.td_model.specs.declared.report.Cause.{Cause}
 use Rattle.td_model.specs.declared.report.Cause.TheVariants as cause
 use Rattle.td_model.specs.declared.report.Many.TheVariants as many
-use Rattle.td_model.specs.Built.{is_built}
 use Rattle.td_model.specs.Catalog.{table_named, stable_named}
 use Rattle.td_model.specs.Printable.{IsCount, IsItem, IsPrintableRow, IsPrintableCause, IsPrintableReply}
 use Rattle.td_model.specs.State.{State}
@@ -28,12 +27,12 @@ use Rattle.td_verdict.specs.Writes as writes
 use Rattle.td_verdict.specs.Writes.{refused_or, cut_between, time_from, write_verdict}
 use Rattle.td_told.specs.Verdict.{verdict, halt_cause, closed_cause, header, answer}
 use Rattle.td_told.specs.Turn.{End, by_verdict, starved, halted, Accepts, Judged, accepted_reply, reply_of}
-use Rattle.td_printed.specs.Names.{AreNamed, HasWords, AreWords, IsCounted}
+use Rattle.td_printed.specs.Names.{AreNamed, HasNames, HasWords, AreWords, IsCounted}
 use Rattle.td_printed.proofs.Lists.{if_when, none_of_first, none_of_others, none_when}
 use Rattle.td_printed.proofs.Schemas.{table_named_schema, stable_named_schema, source_named_schema}
 use Rattle.td_printed.proofs.Causes.{Prints, definition_prints, make_sub_prints, target_prints, chosen_named, groups_print, delete_prints, query_prints}
 use Rattle.td_printed.proofs.Headers.{header_prints}
-use Rattle.td_printed.proofs.Rows.{answer_prints}
+use Rattle.td_printed.proofs.Answered.{answer_prints}
 
 -- ---- what a verdict is answered with, where the next version is below 2^64
 
@@ -58,11 +57,9 @@ refused_prints : (version : ℕ) (why : Option Cause) (v : Verdict) → Prints w
 refused_prints version None v h k = k refl
 refused_prints version (Some cause) v h k = h
 
-passed_prints : (version : ℕ) (b : Bool) (why : Option Cause) → Prints why
-    → VerdictPrints version (cond b (passes_or why) (Refuse cause.OptionNotBuilt))
-passed_prints version true None h = tt
-passed_prints version true (Some why) h = h
-passed_prints version false why h = tt
+passed_prints : (version : ℕ) (why : Option Cause) → Prints why → VerdictPrints version (passes_or why)
+passed_prints version None h = tt
+passed_prints version (Some why) h = h
 
 -- ---- a state that takes writes
 
@@ -79,13 +76,16 @@ closed_prints s counted = by (halt_cause s.halt) (halt_prints s.halt counted.hal
     by None h false = tt
     by (Some why) h b = h
 
-pub next_count : (s : State) → closed_cause s ≡ None → IsCount (s.version + 1)
-next_count s takes =
+pub next_within : (s : State) → closed_cause s ≡ None → s.version + 1 ≤ LAST_VERSION
+next_within s takes =
     let last : Option Cause = when (nat_le LAST_VERSION s.version) cause.TooManyVersions in
     let below : nat_le LAST_VERSION s.version ≡ false = none_when (nat_le LAST_VERSION s.version)
     cause.TooManyVersions (none_of_first last [] (none_of_others (halt_cause s.halt) (last ∷ []) takes)) in
     let less : s.version < LAST_VERSION = grind (arith, nat_tests) in
     omega arith
+
+next_count : (s : State) → closed_cause s ≡ None → IsCount (s.version + 1)
+next_count s takes = let within = next_within s takes in omega (arith, within)
 
 -- ---- each form of a write
 
@@ -97,8 +97,8 @@ stable_prints version name columns (Some tags) s count h t = accepted_prints ver
     (writes.definition_cause name columns tags s.catalog) _ 0 (definition_prints name columns tags s.catalog h t)
     (λ none. (count, no_rows, count))
 
-few_groups : (columns places : List Column) (groups : List (List Lit)) (edge moment : ℕ)
-    → writes.groups_cause columns places groups edge moment ≡ None → IsCount (length groups)
+pub few_groups : (columns places : List Column) (groups : List (List Lit)) (edge moment : ℕ)
+    → writes.groups_cause columns places groups edge moment ≡ None → length groups ≤ INSERT_ROWS
 few_groups columns places groups edge moment none =
     let arity : Option Cause = when (list_any (λ group. not (length group == length places)) groups) cause.Arity in
     let wrong : Option Cause =
@@ -117,8 +117,7 @@ few_groups columns places groups edge moment none =
     (none_of_others wrong (far ∷ rows ∷ []) (none_of_others arity (wrong ∷ far ∷ rows ∷ []) none))) in
     let few : nat_lt INSERT_ROWS (length groups) ≡ false = none_when (nat_lt INSERT_ROWS (length groups))
     (cause.TooMany many.Rows INSERT_ROWS) (none_of_first excess (early ∷ []) last) in
-    let less : length groups ≤ INSERT_ROWS = grind (arith, nat_tests) in
-    omega arith
+    grind (arith, nat_tests)
 
 insert_prints : (version : ℕ) (table : List ℕ) (columns : List Column) (names : Option (List (List ℕ)))
     (groups : List (List Lit)) (moment : ℕ) (s : State) → IsCount version → AreNamed columns → IsCount s.edge
@@ -131,7 +130,8 @@ insert_prints version table columns names groups moment s count h e =
     (λ fine. accepted_prints version (writes.groups_cause columns places groups s.edge moment)
     (what.Put (map (writes.put_of n columns places moment) groups)) (length groups)
     (groups_print columns places groups s.edge moment (chosen_named columns names h) e)
-    (λ none. let few = few_groups columns places groups s.edge moment none in (count, few, (count, few))))
+    (λ none. let within = few_groups columns places groups s.edge moment none in
+    let few : IsCount (length groups) = omega (arith, within) in (count, few, (count, few))))
 
 cut_prints : (version table : ℕ) (lo hi : ℤ) → IsCount version → AcceptPrints version (cut_between table lo hi) 0
 cut_prints version table lo hi count = elim (int_lt hi lo) as
@@ -143,7 +143,7 @@ risen_edge edge moment e m = omega arith
 
 -- ---- the verdict
 
-write_prints : (version : ℕ) (q : Stmt) (s : State) (moment : ℕ) → HasWords q → AreWords s.catalog → IsCounted s
+write_prints : (version : ℕ) (q : Stmt) (s : State) (moment : ℕ) → HasNames q → AreWords s.catalog → IsCounted s
     → IsCount moment → IsCount version → VerdictPrints version (write_verdict q s.catalog s.edge moment)
 write_prints version (stmt.MakeStable name columns tags) s moment h words counted m count = stable_prints version name
     columns tags s count h.1 h.2
@@ -173,13 +173,13 @@ write_prints version stmt.Trim s moment h words counted m count =
     (count, no_rows, (count, risen_edge s.edge moment counted.edge m))
 write_prints version _ s moment h words counted m count = tt
 
-entry_prints : (q : Stmt) (s : State) (moment : ℕ) → HasWords q → AreWords s.catalog → IsCounted s → IsCount moment
+entry_prints : (q : Stmt) (s : State) (moment : ℕ) → HasNames q → AreWords s.catalog → IsCounted s → IsCount moment
     → VerdictPrints (s.version + 1) (refused_or (closed_cause s) (write_verdict q s.catalog s.edge moment))
 entry_prints q s moment h words counted m = refused_prints (s.version + 1) (closed_cause s)
     (write_verdict q s.catalog s.edge moment) (closed_prints s counted)
     (λ takes. write_prints (s.version + 1) q s moment h words counted m (next_count s takes))
 
-pub verdict_prints : (q : Stmt) (s : State) (moment : ℕ) → HasWords q → AreWords s.catalog → IsCounted s
+pub verdict_prints : (q : Stmt) (s : State) (moment : ℕ) → HasNames q → AreWords s.catalog → IsCounted s
     → IsCount moment → VerdictPrints (s.version + 1) (verdict q s [] moment)
 verdict_prints (stmt.Wrong cause) s moment h words counted m = h
 verdict_prints (stmt.MakeStable name columns tags) s moment h words counted m =
@@ -196,20 +196,20 @@ verdict_prints (stmt.DropStream name) s moment h words counted m = entry_prints 
     words counted m
 verdict_prints stmt.Trim s moment h words counted m = entry_prints stmt.Trim s moment h words counted m
 verdict_prints (stmt.Select query) s moment h words counted m = passed_prints (s.version + 1)
-    (is_built (stmt.Select query)) (query_cause query s.catalog)
+    (query_cause query s.catalog)
     (query_prints query s.catalog (source_named_schema s.catalog query.source words))
 verdict_prints _ s moment h words counted m = tt
 
 -- ---- the reply
 
-pub items_print : (q : Stmt) (s : State) (moment : ℕ) → HasWords q → AreWords s.catalog
-    → (let v : Verdict = Pass in v ≡ verdict q s [] moment) → AllByRecursion IsItem (header q s)
-items_print (stmt.Select query) s moment h words pass = header_prints query s.catalog h words pass
-items_print _ s moment h words pass = tt
+pub items_print : (q : Stmt) (s : State) → HasNames q → AreWords s.catalog → AllByRecursion IsItem (header q s)
+items_print (stmt.Select query) s h words = header_prints query s.catalog h words
+items_print _ s h words = tt
 
-pub rows_print : (q : Stmt) (s : State) → IsSound s → AllByRecursion IsPrintableRow (answer q s)
-rows_print (stmt.Select query) s sound = answer_prints query s sound
-rows_print _ s sound = tt
+pub rows_print : (q : Stmt) (s : State) (moment : ℕ) → AreWords s.catalog → IsSound s → IsCounted s
+    → (let v : Verdict = Pass in v ≡ verdict q s [] moment) → AllByRecursion IsPrintableRow (answer q s)
+rows_print (stmt.Select query) s moment words sound counted pass = answer_prints query s sound words counted pass
+rows_print _ s moment words sound counted pass = tt
 
 halt_count : (version : ℕ) (v : Verdict) → Accepts v → VerdictPrints version v → IsCount version
 halt_count version (Accept w rows) accepts h = h.0
@@ -221,19 +221,19 @@ pub reply_prints : (q : Stmt) (s : State) (end : End) (moment : ℕ) → HasWord
     → IsPrintableReply (reply_of q end s)
 reply_prints q s (by_verdict (Accept w rows)) moment h words sound counted m few judged =
     let prints : VerdictPrints (s.version + 1) (Accept w rows) = subst (VerdictPrints (s.version + 1)) (sym judged)
-    (verdict_prints q s moment h words counted m) in prints.2
+    (verdict_prints q s moment h.names words counted m) in prints.2
 reply_prints q s (by_verdict Pass) moment h words sound counted m few judged =
     record {
       prefix = counted.version;
-      header = items_print q s moment h words judged;
-      rows = rows_print q s sound;
+      header = items_print q s h.names words;
+      rows = rows_print q s moment words sound counted judged;
       few = few;
     }
 reply_prints q s (by_verdict (Refuse cause)) moment h words sound counted m few judged = (
   counted.version,
   subst (VerdictPrints (s.version + 1)) (sym judged)
-      (verdict_prints q s moment h words counted m),
+      (verdict_prints q s moment h.names words counted m),
 )
 reply_prints q s starved moment h words sound counted m few judged = tt
 reply_prints q s halted moment h words sound counted m few judged = halt_count (s.version + 1) (verdict q s [] moment)
-    judged (verdict_prints q s moment h words counted m)
+    judged (verdict_prints q s moment h.names words counted m)

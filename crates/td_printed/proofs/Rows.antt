@@ -1,4 +1,4 @@
--- The rows of an answer can be printed.
+-- The rows of a row query's answer can be printed.
 use Rattle.std.proofs.Common.{ℕ, zero, suc, ◌+◌, ℤ, Bool, true, false, cond, ◌==◌, List, [], ◌∷◌, map, take, drop, Option, Some, None, sym, subst}
 use Rattle.std.specs.Prelude.{reverse, slice_get}
 use Rattle.std.specs.declared.cmp.Ordering.TheVariants.{Less, Equal, Greater}
@@ -16,19 +16,20 @@ use Rattle.td_model.specs.declared.language.Query.{Query}
 use Rattle.td_model.specs.Printable.{IsPrintableCell, IsPrintableRow}
 use Rattle.td_model.specs.State.{State, Rows}
 use Rattle.td_verdict.specs.declared.comparison.Comparison.{Comparison}
-use Rattle.td_verdict.specs.Answers.{Found, rows_of, found_row, found_in, time_cmp, put_in_time, picked, shown_places, shown, is_desc, ordered, count_from, limited, cut, reads_table, answer}
+use Rattle.td_verdict.specs.Answers.{Found, rows_of, found_row, found_in, time_cmp, put_in_time, picked, shown_places, shown, is_desc, ordered, count_from, limited, cut, row_answer}
 use Rattle.td_verdict.specs.Fields.{comparisons_of, all_hold}
 use Rattle.td_verdict.specs.Plans.{Numbered, numbered, all_tables, is_in_source, source_tables}
-use Rattle.td_verdict.specs.Queries.{source_of, source_schema}
+use Rattle.td_verdict.specs.Queries.{reads_table, source_of, source_schema}
 use Rattle.td_verdict.specs.Sound.{IsSound}
 use Rattle.td_printed.proofs.Says.{all_append}
 use Rattle.td_printed.proofs.Kept.{all_filtered}
 use Rattle.td_printed.proofs.Lists.{all_mapped, either_value, if_at}
-use Rattle.td_printed.proofs.Cells.{RowPrints, row_prints, rows_print, tables_print}
+use Rattle.td_printed.specs.Names.{AreWords}
+use Rattle.td_printed.proofs.Cells.{IsGood, row_prints, rows_good, tables_print}
 
 -- ---- lists
 
-all_flat : {X Y : Type 0} (P : X → Type 0) (Q : Y → Type 0) (f : X → List Y) (xs : List X)
+pub all_flat : {X Y : Type 0} (P : X → Type 0) (Q : Y → Type 0) (f : X → List Y) (xs : List X)
     → ((x : X) → P x → AllByRecursion Q (f x)) → AllByRecursion P xs → AllByRecursion Q (flat_map f xs)
 all_flat P Q f [] k h = tt
 all_flat P Q f (x ∷ xs) k h = all_append Q (f x) (flat_map f xs) (k x h.0) (all_flat P Q f xs k h.1)
@@ -43,17 +44,26 @@ all_dropped P zero xs h = h
 all_dropped P (suc n) [] h = tt
 all_dropped P (suc n) (x ∷ xs) h = all_dropped P n xs h.1
 
-all_reversed : {X : Type 0} (P : X → Type 0) (xs : List X) → AllByRecursion P xs → AllByRecursion P (reverse xs)
+pub all_reversed : {X : Type 0} (P : X → Type 0) (xs : List X) → AllByRecursion P xs → AllByRecursion P (reverse xs)
 all_reversed P [] h = tt
 all_reversed P (x ∷ xs) h = subst (AllByRecursion P) (sym (reverse-append (x ∷ []) xs))
     (all_append P (reverse xs) (x ∷ []) (all_reversed P xs h.1) (h.0, tt))
+
+all_limited : {X : Type 0} (P : X → Type 0) (limit : Option ℤ) (xs : List X) → AllByRecursion P xs
+    → AllByRecursion P (limited limit xs)
+all_limited P None xs h = h
+all_limited P (Some n) xs h = all_taken P (count_from n) xs h
+
+pub all_cut : {X : Type 0} (P : X → Type 0) (q : Query) (xs : List X) → AllByRecursion P xs
+    → AllByRecursion P (cut q xs)
+all_cut P q xs h = all_limited P q.limit (drop (count_from q.skip) xs) (all_dropped P (count_from q.skip) xs h)
 
 -- ---- rows that are found
 
 abbrev FoundPrints : (Key × List Cell) → Type 0
 FoundPrints e = IsPrintableRow e.1
 
-abbrev TagsPrint : Numbered → Type 0
+abbrev pub TagsPrint : Numbered → Type 0
 TagsPrint t = IsPrintableRow t.1.tags
 
 put_prints : (found : Found) (k : Key) (cells : List Cell) → AllByRecursion FoundPrints found → IsPrintableRow cells
@@ -75,28 +85,30 @@ in_time_print found (e ∷ es) h i = in_time_print (insert_entry time_cmp found 
     (put_prints found e.0 e.1 h i.0) i.1
 
 found_print : (columns : List Column) (ps : List Comparison) (rows : Rows) (t : Numbered)
-    → AllByRecursion RowPrints rows → TagsPrint t → AllByRecursion FoundPrints (found_in columns ps rows t)
+    → AllByRecursion IsGood rows → TagsPrint t → AllByRecursion FoundPrints (found_in columns ps rows t)
 found_print columns ps rows t h tags =
     all_filtered FoundPrints (λ (e : Key × List Cell). all_hold ps e.1) (map (found_row columns t) (rows_of t.0 rows))
-    (all_mapped RowPrints FoundPrints (found_row columns t) (rows_of t.0 rows)
+    (all_mapped IsGood FoundPrints (found_row columns t) (rows_of t.0 rows)
     (λ e r. row_prints columns t.1.name t.1.tags e.0.ts e.1.values r.time r.values tags)
-    (all_filtered RowPrints (λ (e : Key × Row). e.0.table == t.0) rows h))
+    (all_filtered IsGood (λ (e : Key × Row). e.0.table == t.0) rows h))
 
 numbered_print : (n : ℕ) (ts : List TableDef) → AllByRecursion (λ (t : TableDef). IsPrintableRow t.tags) ts
     → AllByRecursion TagsPrint (numbered n ts)
 numbered_print n [] h = tt
 numbered_print n (t ∷ ts) h = (h.0, numbered_print (n + 1) ts h.1)
 
-picked_print : (q : Query) (s : State) → IsSound s → AllByRecursion FoundPrints (picked q s)
-picked_print q s sound =
+pub source_print : (q : Query) (s : State) → IsSound s → AllByRecursion TagsPrint (source_tables q.source s.catalog)
+source_print q s sound = all_filtered TagsPrint (is_in_source (source_of q.source s.catalog)) (all_tables s.catalog)
+    (numbered_print 1 s.catalog.tables (tables_print s.catalog sound.catalog))
+
+picked_print : (q : Query) (s : State) → IsSound s → AreWords s.catalog → AllByRecursion FoundPrints (picked q s)
+picked_print q s sound words =
     let columns : List Column = (source_schema q.source s.catalog).columns in
     let ps : List Comparison = comparisons_of (source_schema q.source s.catalog) q.conds in
     let tables : List Numbered = source_tables q.source s.catalog in
-    let tags : AllByRecursion TagsPrint tables = all_filtered TagsPrint (is_in_source (source_of q.source s.catalog))
-    (all_tables s.catalog) (numbered_print 1 s.catalog.tables (tables_print s.catalog sound.catalog)) in
     in_time_print [] (flat_map (found_in columns ps s.rows) tables) tt
     (all_flat TagsPrint FoundPrints (found_in columns ps s.rows) tables
-    (λ t h. found_print columns ps s.rows t (rows_print s sound) h) tags)
+    (λ t h. found_print columns ps s.rows t (rows_good s sound words) h) (source_print q s sound))
 
 -- ---- what is shown of them
 
@@ -112,18 +124,12 @@ ordered_print : (falls : Bool) (found : Found) → AllByRecursion FoundPrints fo
 ordered_print true found h = all_reversed FoundPrints found h
 ordered_print false found h = h
 
-limited_print : (limit : Option ℤ) (found : Found) → AllByRecursion FoundPrints found
-    → AllByRecursion FoundPrints (limited limit found)
-limited_print None found h = h
-limited_print (Some n) found h = all_taken FoundPrints (count_from n) found h
-
-pub answer_prints : (q : Query) (s : State) → IsSound s → AllByRecursion IsPrintableRow (answer q s)
-answer_prints q s sound =
+pub row_answer_prints : (q : Query) (s : State) → IsSound s → AreWords s.catalog
+    → AllByRecursion IsPrintableRow (row_answer q s)
+row_answer_prints q s sound words =
     let places : List ℕ = shown_places (reads_table q s.catalog) (source_schema q.source s.catalog) q in
     let rows : Found = ordered q.order (picked q s) in
-    let rest : Found = drop (count_from q.skip) rows in
     all_mapped FoundPrints IsPrintableRow (λ (e : Key × List Cell). shown places e.1) (cut q rows)
     (λ e h. shown_print places e.1 h)
-    (limited_print q.limit rest
-    (all_dropped FoundPrints (count_from q.skip) rows
-    (ordered_print (is_desc q.order) (picked q s) (picked_print q s sound))))
+    (all_cut FoundPrints q rows
+    (ordered_print (is_desc q.order) (picked q s) (picked_print q s sound words)))

@@ -32,7 +32,7 @@ empty_printable =
         edge = All-nil _;
       };
       words = record { stables = tt; tables = tt; streams = tt };
-      counted = record { version = omega arith; edge = omega arith; halt = tt };
+      counted = record { version = omega arith; edge = omega arith; halt = tt; rows = omega arith };
     }
 
 pub entry_printable : (text : List ℕ) (q : Stmt) (s : State) (session ordinal moment : ℕ) (w : What) (rows : ℕ)

@@ -1,4 +1,4 @@
--- Laws of names.
+-- Laws of names and numbers.
 use Rattle.std.specs.Prelude.{◌≡◌, ℕ, List, [], ◌∷◌, length, Option}
 use Rattle.std.specs.List.{AllByRecursion}
 use Rattle.td_model.specs.declared.history.Verdict.TheVariants.{Accept}
@@ -15,7 +15,7 @@ use Rattle.td_told.specs.Verdict.{verdict, answer}
 use Rattle.td_verdict.specs.Sound.{IsSound}
 use Rattle.td_printed.specs.Names.{HasWords, AreWords, IsCounted, IsPrintableState, HasCounts}
 
--- Each name in what is answered of a text is a word.
+-- Each name in what is answered of a text is a word, and each type is one that is built.
 abbrev pub NamesOfATextAreWords : Type 0
 NamesOfATextAreWords = (text : List ℕ) (answer : Stmt) → IsAnswer text answer → HasWords answer
 

@@ -12,27 +12,29 @@ ghost use Rattle.td_printed.specs.Laws.{
   ToldReportsArePrintable,
 };
 
-/// Each name in what is answered of a text is a word, and where the text has no tree, its cause can be printed: the
-/// place of an error of syntax is below 2^64.
+/// Each name in what is answered of a text is a word, and each type of a column or a tag is one that is built. Where
+/// the text has no tree, its cause can be printed: the place of an error of syntax is below 2^64.
 pub fn names_of_a_text_are_words()
     ensures { NamesOfATextAreWords }
 {}
 
-/// The empty catalog has no name that isn't a word, and a catalog of words stays one: after the entry of a statement
-/// with words that is accepted, and after its turn, however that ends.
+/// The empty catalog has no name that isn't a word, and no column. A catalog of words, whose columns' types are built,
+/// stays one: after the entry of a statement with words that is accepted, and after its turn, however that ends.
 pub fn catalogs_keep_words()
     ensures empty { AreWords empty_catalog }
     ensures entry { EntriesKeepWords }
     ensures turn { TurnsKeepWords }
 {}
 
-/// The reply to a statement with words can be printed, in a sound state whose catalog has words and whose numbers are
-/// below 2^64, at a moment below 2^64, where an answer has fewer than 2^64 rows.
+/// The reply to a statement with words can be printed, in a sound state whose catalog has words, whose numbers are
+/// below 2^64 and which has no more rows than its versions can have put, at a moment below 2^64, where an answer has
+/// fewer than 2^64 rows. So no sum of an answer is outside the numbers of 128 bits.
 pub fn replies_are_printable()
     ensures { RepliesArePrintable }
 {}
 
-/// The numbers of the empty state are below 2^64, and those of a state stay so, however a turn ends.
+/// The numbers of the empty state are below 2^64, and those of a state stay so, however a turn ends. A state has at
+/// most as many rows for each version that a write can have as an INSERT may have.
 pub fn states_stay_counted()
     ensures empty { IsCounted empty_state }
     ensures turn { StatesStayCounted }

@@ -5,7 +5,7 @@ use Rattle.std.proofs.lemmas.List.{map-append, append_assoc}
 use Rattle.td_model.specs.declared.windows.WinRow.{WinRow}
 use Rattle.td_query.specs.declared.gathering.Group.{Group}
 use Rattle.td_query.specs.Gathered.{grouped_of, without_windows}
-use Rattle.td_query.specs.Groups.{Grouped}
+use Rattle.td_verdict.specs.Groups.{Grouped}
 use Rattle.td_query.specs.Shown.{windows_in}
 use Rattle.td_query.proofs.Picking.{backwards}
 

@@ -13,7 +13,7 @@ use Rattle.td_query.specs.declared.columns.Kept.{Kept}
 use Rattle.td_query.specs.declared.columns.Kept.TheVariants as kept
 use Rattle.td_query.specs.Cuts.{kept_rows, kept_by, window_of_span}
 use Rattle.td_query.specs.Read.{IsGood}
-use Rattle.td_query.specs.Windowed.{Keyed, Windows, whole_window, interval_windows, windows_of}
+use Rattle.td_verdict.specs.Windowed.{Keyed, Windows, whole_window, interval_windows, windows_of}
 
 -- the timestamps are in range
 pub in_range : (rows : List Keyed) → AllByRecursion (IsGood LAST_TIMESTAMP) rows → All (λ t. t ≤ LAST_TIMESTAMP) (map time_of rows)

@@ -5,7 +5,7 @@ use Rattle.td_limits.specs.declared.limits.TheConstants.{LAST_TIMESTAMP}
 use Rattle.td_model.specs.State.{Rows}
 use Rattle.td_query.specs.declared.gathering.Group.{Group}
 use Rattle.td_query.specs.Gathered.{without_windows}
-use Rattle.td_query.specs.Groups.{Grouped, is_shown, first_groups}
+use Rattle.td_verdict.specs.Groups.{Grouped, is_shown, first_groups}
 use Rattle.td_query.specs.Read.{IsGood, AreGood}
 
 module _ (hi : ℕ) (in_time : hi ≤ LAST_TIMESTAMP) where

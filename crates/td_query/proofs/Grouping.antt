@@ -8,8 +8,8 @@ use Rattle.std.specs.Ordering.{match_ordering}
 use Rattle.std.specs.declared.cmp.Ordering.TheVariants.{Less, Equal, Greater}
 use Rattle.td_layer.specs.declared.values.Cell.{Cell}
 use Rattle.td_model.specs.State.{Rows}
-use Rattle.td_query.specs.Parts.{part_cmp}
-use Rattle.td_query.specs.Groups.{Grouped, with_rows, empty_group, put_group}
+use Rattle.td_verdict.specs.Parts.{part_cmp}
+use Rattle.td_verdict.specs.Groups.{Grouped, with_rows, empty_group, put_group}
 use Rattle.td_query.specs.Read.{grouped, all_grouped, put_at}
 use Rattle.td_query.specs.declared.groups.Gathered.{Gathered}
 

@@ -7,7 +7,7 @@ use Rattle.std.proofs.Math.Nat.{mul-le-mul_right, add-mul, mul_comm}
 use Rattle.std.specs.List.{range_with_len, AllByRecursion}
 use Rattle.td_window.specs.Spans.{time_of}
 use Rattle.td_window.specs.Windows.{Window, is_within, interval_window, IsStart, StartsRise, IsIntervalWindow, AreIntervalWindows}
-use Rattle.td_query.specs.Windowed.{Keyed, first_time, last_time, start_of_turn, holds_row, interval_windows}
+use Rattle.td_verdict.specs.Windowed.{Keyed, first_time, last_time, start_of_turn, holds_row, interval_windows}
 
 -- ---- what a list has
 here : {X : Type 0} (x : X) (xs : List X) → Contains (x ∷ xs) x

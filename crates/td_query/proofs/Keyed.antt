@@ -12,7 +12,8 @@ use Rattle.td_model.specs.declared.catalog.Column.{Column}
 use Rattle.td_verdict.specs.Answers.{time_cmp}
 use Rattle.td_verdict.specs.declared.comparison.Comparison.{Comparison}
 use Rattle.td_query.specs.declared.rows.TimeKey.{TimeKey}
-use Rattle.td_query.specs.Groups.{Listed, keyed, put_rows}
+use Rattle.td_verdict.specs.Groups.{Listed, put_rows}
+use Rattle.td_query.specs.Planned.{keyed}
 use Rattle.td_query.specs.Read.{key_of, keyed_rows, is_wanted, wanted_from}
 
 -- the order of such rows

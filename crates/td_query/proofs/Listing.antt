@@ -2,7 +2,7 @@
 use Rattle.std.proofs.Common.{◌≡◌, ℕ, zero, suc, ◌≤◌, List, [], ◌∷◌, drop, length, Option, Some, None, refl, arith}
 use Rattle.std.specs.List.{slice_get}
 use Rattle.td_layer.specs.declared.values.Cell.{Cell}
-use Rattle.td_query.specs.Groups.{tables_from}
+use Rattle.td_query.specs.Planned.{tables_from}
 use Rattle.td_query.specs.Read.{listed_by}
 
 no_part : (n : Option ℕ) (name : Option (List ℕ)) (tags : Option (List Cell)) → None ≡ listed_by n None name tags

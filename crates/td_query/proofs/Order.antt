@@ -3,7 +3,7 @@ use Rattle.std.proofs.Common.{◌≡◌, ◌<◌, List, [], ◌∷◌, length, r
 use Rattle.std.specs.Cmp.Lexicographic.{slice_cmp}
 use Rattle.std.specs.declared.cmp.Ordering.TheVariants.{Less, Equal, Greater}
 use Rattle.td_layer.specs.declared.values.Cell.{Cell}
-use Rattle.td_query.specs.Parts.{cell_cmp}
+use Rattle.td_verdict.specs.Parts.{cell_cmp}
 
 pub left_ended : (xs ys : List Cell) → length xs < 1 → length ys ≡ 0 → slice_cmp cell_cmp xs ys ≡ Equal
 left_ended [] [] short none = refl

@@ -19,8 +19,9 @@ use Rattle.td_model.specs.declared.language.Query.{Query}
 use Rattle.td_model.specs.declared.plan.Plan.{Plan}
 use Rattle.td_verdict.specs.Answers.{Found, time_cmp, put_in_time, ordered, cut, shown, answer_of}
 use Rattle.td_verdict.specs.declared.comparison.Comparison.{Comparison}
-use Rattle.td_query.specs.Answered.{found_in, found_of}
-use Rattle.td_query.specs.Groups.{Listed, tables_of, cells_of}
+use Rattle.td_query.specs.Planned.{found_in, found_of}
+use Rattle.td_verdict.specs.Groups.{Listed, cells_of}
+use Rattle.td_query.specs.Planned.{tables_of}
 use Rattle.td_query.specs.Picks.{picked_cells, found_rows, with_cells, wanted_found, picked_shown}
 use Rattle.td_query.specs.Read.{key_of, wanted_from}
 use Rattle.td_query.specs.declared.picks.Picked.{Picked}

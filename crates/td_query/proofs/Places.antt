@@ -1,14 +1,19 @@
--- The cells of a row by their places.
-use Rattle.std.proofs.Common.{◌≡◌, ℕ, zero, suc, ◌+◌, ◌-◌, ◌<◌, ◌≤◌, pos, Option, Some, sym, List, [], ◌∷◌, ◌++◌, length, refl, ap, ◌∙◌, arith}
+-- The cells of a row by their places; and a table whose name and tags don't pass has no row of which all comparisons are true.
+use Rattle.std.proofs.Common.{◌≡◌, ℕ, zero, suc, ◌+◌, ◌-◌, ◌<◌, ◌≤◌, pos, nat_eq, Option, Some, sym, Bool, true, false, cond, ◌&&◌, nat_lt, List, [], ◌∷◌, ◌++◌, length, refl, ap, ◌∙◌, arith}
 use Rattle.std.specs.List.{slice_get}
-use Rattle.std.specs.Option.{unwrap_or}
+use Rattle.std.specs.Option.{option_map_or, unwrap_or}
+use Rattle.std.proofs.lemmas.Bool.Decides.{nat_tests}
 use Rattle.std.proofs.lemmas.Option.{same_Some}
+use Rattle.std.proofs.lemmas.Bool.{and_left, and_right, ltb-true}
 use Rattle.td_layer.specs.declared.values.Value.{Value}
 use Rattle.td_layer.specs.declared.values.Value.TheVariants as value
 use Rattle.td_layer.specs.declared.values.Cell.{Cell}
 use Rattle.td_layer.specs.declared.values.Cell.TheVariants as cell
 use Rattle.td_model.specs.declared.catalog.Column.{Column}
-use Rattle.td_verdict.specs.Fields.{value_cell, value_cells, column_cells, row_cells}
+use Rattle.td_model.specs.Tags.{cell_matches, tag_matches}
+use Rattle.td_verdict.specs.declared.comparison.Comparison.{Comparison}
+use Rattle.td_verdict.specs.Fields.{value_cell, value_cells, column_cells, row_cells, holds, all_hold}
+use Rattle.td_verdict.specs.Plans.{holds_of_table, all_hold_of_table}
 
 length-value_cells : (cs : List Column) (values : List Value) → length (value_cells cs values) ≡ length cs
 length-value_cells [] values = refl
@@ -32,6 +37,22 @@ module _ (columns : List Column) (name : List ℕ) (tags : List Cell) (ts : ℕ)
   at_tag place h =
       let long = length-column_cells columns ts values in
       get_behind (cell.Str name ∷ column_cells columns ts values) tags place (place - (length columns + 1)) (omega arith)
+
+  fails_tag : (p : Comparison) (b : Bool) → nat_lt (length columns) p.place ≡ b → cond b (tag_matches (p.place - (length columns + 1)) p.op p.operand tags) true ≡ false → holds cells p ≡ false
+  fails_tag p true is h = ap (λ o. option_map_or (λ a. cell_matches p.op a p.operand) o false) (at_tag p.place (ltb-true (length columns) p.place is)) ∙ h
+  fails_tag p false is h = absurd (cc)
+
+  fails_by : (p : Comparison) (b : Bool) → nat_eq p.place 0 ≡ b → cond b (cell_matches p.op (cell.Str name) p.operand) (cond (nat_lt (length columns) p.place) (tag_matches (p.place - (length columns + 1)) p.op p.operand tags) true) ≡ false → holds cells p ≡ false
+  fails_by p true is h = let none : p.place ≡ 0 = grind (arith, nat_tests) in ap (λ n. tag_matches n p.op p.operand cells) none ∙ h
+  fails_by p false is h = fails_tag p (nat_lt (length columns) p.place) refl h
+
+  fails_at : (p : Comparison) (ps : List Comparison) (b : Bool) → holds_of_table (length columns) name tags p ≡ b → cond b (all_hold_of_table (length columns) ps name tags) false ≡ false → (all_hold_of_table (length columns) ps name tags ≡ false → all_hold ps cells ≡ false) → (holds cells p && all_hold ps cells) ≡ false
+  fails_at p ps true is h rest = and_right (holds cells p) (all_hold ps cells) (rest h)
+  fails_at p ps false is h rest = and_left (holds cells p) (all_hold ps cells) (fails_by p (nat_eq p.place 0) refl is)
+
+  pub fails : (ps : List Comparison) → all_hold_of_table (length columns) ps name tags ≡ false → all_hold ps cells ≡ false
+  fails [] h = absurd (cc)
+  fails (p ∷ ps) h = fails_at p ps (holds_of_table (length columns) name tags p) refl h (fails ps)
 
 -- ---- a column's cell
 get_front : (xs ys : List Cell) (i : ℕ) → i < length xs → slice_get (xs ++ ys) i ≡ slice_get xs i

@@ -14,7 +14,7 @@ use Rattle.td_query.specs.declared.arranging.StartKey.{StartKey}
 use Rattle.td_layer.specs.declared.values.Cell.{Cell}
 use Rattle.td_model.specs.declared.language.Query.{Query}
 use Rattle.td_verdict.specs.Answers.{count_from, limited, cut}
-use Rattle.td_query.specs.Arranged.{put_by_start, put_by_starts, cells_shown}
+use Rattle.td_verdict.specs.Arranged.{put_by_start, put_by_starts, cells_shown}
 use Rattle.td_query.specs.Shown.{all_shown}
 
 abbrev pub start_cmp : StartKey → StartKey → Ordering

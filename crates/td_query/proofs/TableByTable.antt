@@ -5,7 +5,8 @@ use Rattle.std.specs.List.{slice_get}
 use Rattle.td_model.specs.State.{Rows}
 use Rattle.td_model.specs.declared.plan.Plan.{Plan}
 use Rattle.td_verdict.specs.declared.comparison.Comparison.{Comparison}
-use Rattle.td_query.specs.Groups.{Listed, Grouped, tables_of, picked_in, put_group, put_tables}
+use Rattle.td_verdict.specs.Groups.{Listed, Grouped, put_group, put_tables}
+use Rattle.td_query.specs.Planned.{tables_of, picked_in}
 use Rattle.td_query.specs.Read.{told_sum, held_by}
 
 -- how many partials the layers of a snapshot hold of tables, where it is told

@@ -17,7 +17,7 @@ use Rattle.td_limits.specs.declared.limits.TheConstants.{LAST_TIMESTAMP}
 use Rattle.td_query.specs.declared.columns.Kept.{Kept}
 use Rattle.td_query.specs.Cuts.{is_kept, kept_rows, values}
 use Rattle.td_query.specs.Read.{IsGood}
-use Rattle.td_query.specs.Windowed.{Keyed, value_at}
+use Rattle.td_verdict.specs.Windowed.{Keyed, value_at}
 
 -- ---- values are such as a column holds
 behind : (vs : List Value) (at : ℕ) → AreColumnValues vs → IsColumnValue (unwrap_or (slice_get vs at) value.Null)

@@ -16,8 +16,9 @@ use Rattle.td_model.specs.State.{Rows}
 use Rattle.td_model.specs.declared.catalog.Column.{Column}
 use Rattle.td_verdict.specs.Answers.{time_cmp}
 use Rattle.td_verdict.specs.declared.comparison.Comparison.{Comparison}
-use Rattle.td_query.specs.Parts.{part_cmp}
-use Rattle.td_query.specs.Groups.{Listed, Grouped, keyed, is_picked, picked_from, put_rows, with_rows, empty_group, put_group}
+use Rattle.td_verdict.specs.Parts.{part_cmp}
+use Rattle.td_verdict.specs.Groups.{Listed, Grouped, is_picked, put_rows, with_rows, empty_group, put_group}
+use Rattle.td_query.specs.Planned.{keyed, picked_from}
 use Rattle.td_query.specs.Read.{is_within, is_wanted, wanted_from, IsGood, AreGood}
 
 -- ---- rows of a range all lie in it

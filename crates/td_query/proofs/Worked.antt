@@ -28,8 +28,8 @@ use Rattle.td_model.specs.declared.language.Query.{Query}
 use Rattle.td_model.specs.declared.language.WindowDef.{WindowDef}
 use Rattle.td_model.specs.declared.language.WindowDef.TheVariants as window
 use Rattle.td_model.specs.declared.plan.Plan.{Plan}
-use Rattle.td_query.specs.Answered.{plan_answer}
-use Rattle.td_query.specs.Refusals.{is_bad_selection, is_bad_window}
+use Rattle.td_query.specs.Planned.{plan_answer}
+use Rattle.td_verdict.specs.Refusals.{is_bad_selection, is_bad_window}
 
 abbrev column : List ℕ → Kind → Column
 column name kind = record { name = name; kind = kind }

@@ -14,7 +14,7 @@ use Rattle.td_query.specs.declared.columns.Kept.{Kept}
 use Rattle.td_query.specs.declared.columns.Kept.TheVariants as kept
 use Rattle.td_query.specs.declared.items.Cut.{Cut}
 use Rattle.td_query.specs.Read.{IsGood}
-use Rattle.td_query.specs.Windowed.{Keyed, value_at}
+use Rattle.td_verdict.specs.Windowed.{Keyed, value_at}
 
 -- whether a row belongs to its window
 abbrev pub is_kept : Kept → Keyed → Bool

@@ -4,7 +4,7 @@ use Rattle.std.specs.List.{AllByRecursion}
 use Rattle.std.specs.List.Sorted.{IsNonDecreasing}
 use Rattle.td_limits.specs.declared.limits.TheConstants.{LAST_TIMESTAMP}
 use Rattle.td_query.specs.declared.gathering.Group.{Group}
-use Rattle.td_query.specs.Groups.{Grouped}
+use Rattle.td_verdict.specs.Groups.{Grouped}
 use Rattle.td_query.specs.Read.{time_of, IsGood}
 
 abbrev pub without_windows : Grouped → Group

@@ -1,12 +1,7 @@
-pub mod Answered
-pub mod Arranged
 pub mod Cuts
 pub mod Gathered
-pub mod Groups
 pub mod Lines
-pub mod Parts
 pub mod Picks
+pub mod Planned
 pub mod Read
-pub mod Refusals
 pub mod Shown
-pub mod Windowed

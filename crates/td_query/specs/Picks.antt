@@ -8,7 +8,7 @@ use Rattle.td_model.specs.declared.catalog.Column.{Column}
 use Rattle.td_verdict.specs.Answers.{Found, shown}
 use Rattle.td_verdict.specs.Fields.{row_cells}
 use Rattle.td_verdict.specs.declared.comparison.Comparison.{Comparison}
-use Rattle.td_query.specs.Groups.{Listed, cells_of}
+use Rattle.td_verdict.specs.Groups.{Listed, cells_of}
 use Rattle.td_query.specs.Read.{key_of, wanted_from}
 use Rattle.td_query.specs.declared.picks.Picked.{Picked}
 use Rattle.td_query.specs.declared.rows.TimeKey.{TimeKey}

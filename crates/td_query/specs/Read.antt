@@ -8,7 +8,8 @@ use Rattle.td_layer.specs.declared.values.Row.{Row}
 use Rattle.td_model.specs.State.{Rows}
 use Rattle.td_model.specs.declared.catalog.Column.{Column}
 use Rattle.td_verdict.specs.declared.comparison.Comparison.{Comparison}
-use Rattle.td_query.specs.Groups.{Listed, keyed, is_picked, Grouped, with_rows, empty_group, put_group}
+use Rattle.td_verdict.specs.Groups.{Listed, is_picked, Grouped, with_rows, empty_group, put_group}
+use Rattle.td_query.specs.Planned.{keyed}
 use Rattle.td_query.specs.declared.groups.Gathered.{Gathered}
 use Rattle.td_query.specs.declared.tables.Table.{Table}
 use Rattle.td_query.specs.declared.rows.TimeKey.{TimeKey}

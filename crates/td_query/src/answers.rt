@@ -1,17 +1,20 @@
 //! The answer of a plan over a snapshot.
-ghost use Rattle.std.specs.Prelude.{◌≡◌, ◌≤◌, ◌+◌, ℕ, IfOk, IfSome, All, drop, take, map, reverse, false};
+ghost use Rattle.std.specs.Prelude.{◌≡◌, ◌≤◌, ◌<◌, ◌+◌, ◌^◌, ℕ, IfOk, IfSome, All, drop, take, map, reverse, length, false, Some};
 ghost use Rattle.std.specs.List.{flat_map};
 ghost use Rattle.td_layer.specs.Scans.{HasScanCause};
 ghost use Rattle.td_limits.specs.declared.limits.TheConstants.{LAST_TIMESTAMP};
+ghost use Rattle.td_model.specs.declared.language.Query.{Query as AQuery};
+ghost use Rattle.td_model.specs.State.{State};
 ghost use Rattle.td_verdict.specs.Answers.{answer_of, shown_places};
 ghost use Rattle.td_verdict.specs.Fields.{comparisons_of};
-ghost use Rattle.td_verdict.specs.Plans.{reads_one};
-ghost use Rattle.td_query.specs.Answered.{window_rows, answer_of_groups, row_answer, plan_answer};
+ghost use Rattle.td_verdict.specs.Plans.{plan_of, reads_one};
+ghost use Rattle.td_verdict.specs.Answered.{window_rows, answer_of_groups, answer};
 ghost use Rattle.td_query.specs.Gathered.{grouped_of, IsReady};
-ghost use Rattle.td_query.specs.Groups.{tables_of, groups_of};
+ghost use Rattle.td_query.specs.Planned.{tables_of, groups_of, row_answer, plan_answer};
 ghost use Rattle.td_query.specs.Picks.{found_rows};
 ghost use Rattle.td_query.specs.Read.{held_by};
-ghost use Rattle.td_query.specs.Refusals.{has_bad_bounds};
+ghost use Rattle.td_verdict.specs.Refusals.{has_bad_bounds};
+ghost use Rattle.td_verdict.specs.Sound.{IsSound};
 ghost use Rattle.td_query.specs.Shown.{windows_in};
 
 use crate::arranging::arrange;
@@ -68,6 +71,9 @@ fn windows_answer<Q: Snapshot, L: Ledger>(
     ensures part { IfOk result (λ all. IfSome (Q.rows snap.old) (λ rows. all ≡ take count
         (drop skip (answer_of_groups plan.now.schema.columns plan.now.query
         (groups_of plan.now (comparisons_of plan.now.schema plan.now.query.conds) rows))))) }
+    ensures few { IfOk result (λ _. IfSome (Q.rows snap.old)
+        (λ rows. length (answer_of_groups plan.now.schema.columns plan.now.query
+        (groups_of plan.now (comparisons_of plan.now.schema plan.now.query.conds) rows)) < 2 ^ 63)) }
     ensures rows { Q.rows snap.new ≡ Q.rows snap.old }
     ensures held { (t l h : ℕ) → Q.held snap.new t l h ≡ Q.held snap.old t l h }
     ensures damaged { Q.damaged snap.new ≡ Q.damaged snap.old }
@@ -89,9 +95,12 @@ fn picked_answer(
     skip: u64,
     count: u64,
 ) -> Result<Seq<Seq<Cell>>, NoMem>
-    ensures { IfOk result (λ all. all ≡ take count
+    ensures part { IfOk result (λ all. all ≡ take count
         (drop skip (answer_of plan.now.query (shown_places (reads_one plan.now) plan.now.schema plan.now.query)
         (found_rows plan.now.schema.columns picked.entry.entries)))) }
+    ensures few { IfOk result (λ _. length
+        (answer_of plan.now.query (shown_places (reads_one plan.now) plan.now.schema plan.now.query)
+        (found_rows plan.now.schema.columns picked.entry.entries)) < 2 ^ 63) }
 {
     let places = shown_places(alloc, plan)?;
     let ordered = in_order(alloc, &plan.query.order, picked)?;
@@ -112,6 +121,8 @@ fn rows_answer<Q: Snapshot, L: Ledger>(
 ) -> Result<Seq<Seq<Cell>>, ScanFault>
     ensures part { IfOk result (λ all. IfSome (Q.rows snap.old) (λ rows. all ≡ take count
         (drop skip (row_answer plan.now (comparisons_of plan.now.schema plan.now.query.conds) rows)))) }
+    ensures few { IfOk result (λ _. IfSome (Q.rows snap.old)
+        (λ rows. length (row_answer plan.now (comparisons_of plan.now.schema plan.now.query.conds) rows) < 2 ^ 63)) }
     ensures rows { Q.rows snap.new ≡ Q.rows snap.old }
     ensures held { (t l h : ℕ) → Q.held snap.new t l h ≡ Q.held snap.old t l h }
     ensures damaged { Q.damaged snap.new ≡ Q.damaged snap.old }
@@ -131,6 +142,9 @@ fn rows_answer<Q: Snapshot, L: Ledger>(
 /// PARTITION BY there is one group, also over no row. A row query answers the rows that it picks, by timestamp, then by
 /// table, or the reverse. Then come OFFSET and LIMIT, of which a negative number counts as 0.
 ///
+/// Where the plan is that of a query in a sound state and the snapshot has the rows of that state, this is that part of
+/// the query's answer there, which has fewer than 2^63 rows.
+///
 /// It reads each table of the plan once, and takes at most as many steps as the layers hold partials of these. The
 /// plan's timestamps end in the range of time, and its interval has durations in their bounds. The snapshot stands for
 /// what it stood for, also where a fault is answered; the faults are those of [`Snapshot::rows_of`], and `NoMemory`,
@@ -147,6 +161,10 @@ pub fn answer<Q: Snapshot, L: Ledger>(
     requires bounds { has_bad_bounds plan.now.query.window ≡ false }
     ensures part { IfOk result (λ all. IfSome (Q.rows snap.old)
         (λ rows. all ≡ take count (drop skip (plan_answer plan.now rows)))) }
+    ensures whole { (q : AQuery) (s : State) → IsSound s → plan.now ≡ plan_of q s.catalog
+        → Q.rows snap.old ≡ Some s.rows → IfOk result (λ all. all ≡ take count (drop skip (answer q s))) }
+    ensures few { (q : AQuery) (s : State) → IsSound s → plan.now ≡ plan_of q s.catalog
+        → Q.rows snap.old ≡ Some s.rows → IfOk result (λ all. length (answer q s) < 2 ^ 63) }
     ensures rows { Q.rows snap.new ≡ Q.rows snap.old }
     ensures held { (t l h : ℕ) → Q.held snap.new t l h ≡ Q.held snap.old t l h }
     ensures damaged { Q.damaged snap.new ≡ Q.damaged snap.old }

@@ -1,7 +1,7 @@
 //! The order of windows, and the part of them that is shown.
-ghost use Rattle.std.specs.Prelude.{◌≡◌, ◌++◌, drop, take, map, IfOk, OnOk};
+ghost use Rattle.std.specs.Prelude.{◌≡◌, ◌<◌, ◌^◌, ◌++◌, drop, take, map, length, IfOk, OnOk};
 ghost use Rattle.std.specs.List.{flat_map};
-ghost use Rattle.td_query.specs.Arranged.{arranged, by_start, cells_shown, answer_of_rows};
+ghost use Rattle.td_verdict.specs.Arranged.{arranged, by_start, cells_shown, answer_of_rows};
 ghost use Rattle.td_query.specs.Shown.{all_shown, windows_in};
 
 use crate::gathering::Group;
@@ -114,7 +114,7 @@ fn cells_of(alloc: Global, rows: &[Shown<'_>]) -> Result<Seq<Seq<Cell>>, NoMem>
 /// A part of the answer whose groups have these windows: the cells of each window, in the order of the groups or by
 /// ORDER BY, then OFFSET, then LIMIT; of these rows without the first `skip`, at most `count`. ORDER BY sorts by the
 /// windows' starts and keeps the former order of windows of one start; descending is that order reversed. A negative
-/// OFFSET or LIMIT counts as 0. `Err(NoMem)` is want of memory.
+/// OFFSET or LIMIT counts as 0. The whole answer has fewer than 2^63 rows. `Err(NoMem)` is want of memory.
 pub fn arrange(
     alloc: Global,
     plan: &Plan,
@@ -122,8 +122,10 @@ pub fn arrange(
     skip: u64,
     count: u64,
 ) -> Result<Seq<Seq<Cell>>, NoMem>
-    ensures { IfOk result (λ all. all ≡ take count
+    ensures part { IfOk result (λ all. all ≡ take count
         (drop skip (answer_of_rows plan.now.query (flat_map windows_in groups.now)))) }
+    ensures few { IfOk result
+        (λ _. length (answer_of_rows plan.now.query (flat_map windows_in groups.now)) < 2 ^ 63) }
 {
     let rows = windows_of(alloc, groups.as_slice())?;
     let rows = in_order(alloc, &plan.query.order, rows)?;

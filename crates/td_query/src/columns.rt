@@ -6,7 +6,7 @@ ghost use Rattle.td_limits.specs.declared.limits.TheConstants.{LAST_TIMESTAMP};
 ghost use Rattle.td_window.specs.Windows.{isnt_null};
 ghost use Rattle.td_query.specs.Cuts.{is_kept, kept_rows, values};
 ghost use Rattle.td_query.specs.Read.{IsGood};
-ghost use Rattle.td_query.specs.Windowed.{value_at, is_end, truth_cell, has_truths, aggregate_cell};
+ghost use Rattle.td_verdict.specs.Windowed.{value_at, is_end, truth_cell, has_truths, aggregate_cell};
 
 use crate::cells::value_in;
 use td_aggr::{Aggr, Tally};

@@ -2,10 +2,10 @@
 ghost use Rattle.std.specs.Prelude.{◌≡◌, [], IfOk, OnOk, OnErr, All, length, map, false};
 ghost use Rattle.std.specs.List.Sorted.{IsNonDecreasing};
 ghost use Rattle.td_window.specs.Spans.{time_of};
-ghost use Rattle.td_query.specs.Answered.{window_row, window_rows};
+ghost use Rattle.td_verdict.specs.Answered.{window_row, window_rows};
 ghost use Rattle.td_query.specs.Cuts.{window_of_cut, window_of_span, AreSound, IsAmong};
 ghost use Rattle.td_query.specs.Gathered.{grouped_of, IsReady};
-ghost use Rattle.td_query.specs.Refusals.{has_bad_bounds};
+ghost use Rattle.td_verdict.specs.Refusals.{has_bad_bounds};
 
 use crate::columns::Kept;
 use crate::gathering::Group;

@@ -2,7 +2,8 @@
 ghost use Rattle.std.specs.Prelude.{◌≡◌, ◌≤◌, ◌+◌, ◌++◌, ◌∷◌, [], ℕ, IfOk, IfSome, OnOk, All, map, filter};
 ghost use Rattle.td_layer.specs.Scans.{HasScanCause};
 ghost use Rattle.td_verdict.specs.Fields.{comparisons_of};
-ghost use Rattle.td_query.specs.Groups.{tables_of, picked_in, put_group, put_tables, has_one_group, first_groups, is_shown, groups_of};
+ghost use Rattle.td_verdict.specs.Groups.{put_group, put_tables, has_one_group, first_groups, is_shown};
+ghost use Rattle.td_query.specs.Planned.{tables_of, picked_in, groups_of};
 ghost use Rattle.td_limits.specs.declared.limits.TheConstants.{LAST_TIMESTAMP};
 ghost use Rattle.td_query.specs.Read.{grouped, all_grouped, listed, held_by, AreGood};
 ghost use Rattle.td_query.specs.Gathered.{without_windows, IsInOrder, IsReady};

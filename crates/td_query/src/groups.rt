@@ -1,6 +1,6 @@
 //! Rows by groups.
 ghost use Rattle.std.specs.Prelude.{◌≡◌, ◌≤◌, ◌<◌, ℕ, IfOk, OnOk, map, length, MatchResult};
-ghost use Rattle.td_query.specs.Groups.{empty_group, put_group};
+ghost use Rattle.td_verdict.specs.Groups.{empty_group, put_group};
 ghost use Rattle.td_query.specs.Read.{all_grouped, listed, wanted_from, PutsAt, PutsIn, Opens};
 
 use crate::parts::part_order;

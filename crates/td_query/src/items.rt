@@ -2,8 +2,8 @@
 ghost use Rattle.std.specs.Prelude.{◌≡◌, IfOk, length, map, position};
 ghost use Rattle.td_model.specs.declared.language.Item.{Item};
 ghost use Rattle.td_query.specs.Cuts.{window_of_cut, window_of_span, AreSound, IsAmong};
-ghost use Rattle.td_query.specs.Parts.{is_part, part_cell};
-ghost use Rattle.td_query.specs.Windowed.{item_cell};
+ghost use Rattle.td_verdict.specs.Parts.{is_part, part_cell};
+ghost use Rattle.td_verdict.specs.Windowed.{item_cell};
 
 use crate::cells::copy_at;
 use crate::columns::{Kept, aggregate_cell, count_of};

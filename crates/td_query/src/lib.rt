@@ -10,11 +10,13 @@
 //! snapshot stands for; that each table is read once, with no more steps than reading it takes; and which fault comes
 //! when.
 //!
-//! What an answer is stands in `specs`: `Groups` (partitions), `Windowed` (windows and the cells of the select list),
-//! `Arranged` and `Answered` (the answer of a plan), and `Refusals` (which select lists and windows are refused). The
-//! crate stands on `td_verdict` for the definitions of conditions, on `td_fields` and `td_cells` for what they mean for
-//! a row, on `td_window` and `td_aggr` for windows and aggregates, and on `td_model` and `td_layer` for the types.
-//! Nothing uses it yet.
+//! What a query answers in a state is defined in `td_verdict`, which knows no plan: `Parts` and `Groups` (partitions
+//! and the rows that are picked), `Windowed` (windows and the cells of the select list), `Arranged` and `Answered` (the
+//! answer), and `Refusals` (which select lists and windows are refused). `specs/Planned` says the same of a plan, and
+//! [`plans_answer_their_queries`] that both give one answer over a sound state. The crate stands on `td_verdict` for
+//! the definitions, on `td_fields` and `td_cells` for what conditions mean for a row, on `td_window` and `td_aggr` for
+//! windows and aggregates, and on `td_model` and `td_layer` for the types. `td_core` uses it for queries with
+//! aggregates, windows and PARTITION BY. Row queries go to `td_answer` there, which stops at LIMIT and copies no row.
 #![tactic(auto)]
 
 mod answers;
@@ -37,4 +39,6 @@ pub use answers::answer;
 pub use arranging::arrange;
 pub use finishing::finish;
 pub use gathering::{Group, gather};
-pub use laws::{interval_windows_are_all, windows_that_pass_are_in_bounds};
+pub use laws::{
+    interval_windows_are_all, plans_answer_their_queries, windows_that_pass_are_in_bounds,
+};

@@ -1,6 +1,6 @@
 //! The order of partitions.
 ghost use Rattle.std.specs.Prelude.{◌≡◌};
-ghost use Rattle.td_query.specs.Parts.{rank, number, place, text, cell_cmp, part_cmp};
+ghost use Rattle.td_verdict.specs.Parts.{rank, number, place, text, cell_cmp, part_cmp};
 
 use std::cmp::Ordering;
 use td_layer::Cell;

@@ -2,8 +2,8 @@
 ghost use Rattle.std.specs.Prelude.{◌≡◌, ◌≤◌, ◌+◌, ◌∷◌, [], ℕ, IfOk, IfSome, OnOk, map, reverse};
 ghost use Rattle.td_layer.specs.Scans.{HasScanCause};
 ghost use Rattle.td_verdict.specs.Answers.{put_in_time, is_desc, ordered};
-ghost use Rattle.td_query.specs.Answered.{found_in, found_of};
-ghost use Rattle.td_query.specs.Groups.{tables_of};
+ghost use Rattle.td_query.specs.Planned.{found_in, found_of};
+ghost use Rattle.td_query.specs.Planned.{tables_of};
 ghost use Rattle.td_query.specs.Picks.{found_rows, wanted_found};
 ghost use Rattle.td_query.specs.Read.{listed, held_by};
 

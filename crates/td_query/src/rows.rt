@@ -1,7 +1,8 @@
 //! The rows of a group, by timestamp and then by table.
 ghost use Rattle.std.specs.Prelude.{◌≡◌, ◌∷◌, [], map, IfOk, OnOk};
 ghost use Rattle.std.specs.List.Sorted.{IsNonDecreasing};
-ghost use Rattle.td_query.specs.Groups.{keyed, put_rows};
+ghost use Rattle.td_verdict.specs.Groups.{put_rows};
+ghost use Rattle.td_query.specs.Planned.{keyed};
 ghost use Rattle.td_query.specs.Read.{key_of, keyed_rows, time_of, listed, is_wanted, wanted_from};
 
 use crate::cells::{Line, all_hold};

@@ -6,8 +6,8 @@ ghost use Rattle.td_window.specs.Spans.{time_of, window_over, window_over_states
 ghost use Rattle.td_window.specs.Windows.{session_windows, state_windows};
 ghost use Rattle.td_query.specs.Cuts.{kept_by, window_of_span, IsAmong};
 ghost use Rattle.td_query.specs.Read.{IsGood};
-ghost use Rattle.td_query.specs.Refusals.{has_bad_bounds};
-ghost use Rattle.td_query.specs.Windowed.{value_at, interval_windows, windows_of};
+ghost use Rattle.td_verdict.specs.Refusals.{has_bad_bounds};
+ghost use Rattle.td_verdict.specs.Windowed.{value_at, interval_windows, windows_of};
 
 use crate::columns::{Kept, value_at};
 use std::alloc::Global;

@@ -1,7 +1,7 @@
 //! The tables that a plan reads.
 ghost use Rattle.std.specs.Prelude.{◌≡◌, slice_get};
 ghost use Rattle.std.specs.Option.{option_map};
-ghost use Rattle.td_query.specs.Groups.{tables_of};
+ghost use Rattle.td_query.specs.Planned.{tables_of};
 ghost use Rattle.td_query.specs.Read.{listed};
 
 use td_layer::{Cell, Name, Seq};

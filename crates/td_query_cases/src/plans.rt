@@ -1,6 +1,6 @@
 //! The plan of a query over tables.
 ghost use Rattle.std.specs.Prelude.{◌≡◌, ◌≤◌, false, IfOk, IsTrue};
-ghost use Rattle.td_query.specs.Refusals.{has_bad_bounds};
+ghost use Rattle.td_verdict.specs.Refusals.{has_bad_bounds};
 
 use crate::asks::{items_of, order_of, pair_of, parts_of, window_of};
 use crate::player::{Player, Told};

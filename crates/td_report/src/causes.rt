@@ -6,6 +6,7 @@ ghost use Rattle.td_model.specs.Text.{many_text, cause_text};
 
 use td_layer::{Name, NoMem};
 use td_lex::decimal;
+use td_limits::LAST_VERSION;
 use td_model::{Cause, Many};
 
 // Of what there are too many.
@@ -61,7 +62,7 @@ pub(crate) fn push_cause(out: &mut Name, cause: &Cause) -> Result<(), NoMem>
         Cause::TypeNotBuilt => out.extend(b"TypeNotBuilt"),
         Cause::OptionNotBuilt => out.extend(b"OptionNotBuilt"),
         Cause::Stopped { version } => push_with_number(out, b"Stopped ", *version),
-        Cause::TooManyVersions => out.extend(b"TooMany versions 281474976710654"),
+        Cause::TooManyVersions => push_with_number(out, b"TooMany versions ", LAST_VERSION),
         Cause::UnknownTable => out.extend(b"UnknownTable"),
         Cause::UnknownStable => out.extend(b"UnknownStable"),
         Cause::UnknownStream => out.extend(b"UnknownStream"),

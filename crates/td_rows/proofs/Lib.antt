@@ -2,3 +2,4 @@ pub mod Puts
 pub mod InOrder
 pub mod Ranges
 pub mod Walked
+pub mod Scanned

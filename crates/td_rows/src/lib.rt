@@ -6,7 +6,7 @@
 //! others.
 //!
 //! [`RowsByKey`] is what a reader needs of it: the rows of a range are lent in the order of their timestamps, and none
-//! is copied.
+//! is copied. [`RowView`] has the rows of one moment as a snapshot, which gives copies of the rows of a range.
 //!
 //! The crate stands in until rows lie in a memtable and in files. It stands on `td_model` for the definitions
 //! (`State`), on `td_memtree` for the tree, and on `td_layer` for the types.
@@ -16,7 +16,9 @@ mod lay;
 mod lent;
 mod rows;
 mod tree;
+mod view;
 
 pub use lent::RowsIn;
 pub use rows::RowsByKey;
 pub use tree::RowTree;
+pub use view::RowView;

@@ -1,3 +1,4 @@
 pub mod Subtables
 pub mod Parts
 pub mod Steps
+pub mod ColumnKinds

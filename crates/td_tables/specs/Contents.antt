@@ -1,7 +1,6 @@
 -- What is kept beside a catalog, what an entry makes of it, and the part of an entry that is made before it is applied.
-use Rattle.std.specs.Prelude.{◌≡◌, ℕ, ◌+◌, ◌*◌, ◌<◌, not, nat_le, List, [], ◌∷◌, ◌++◌, filter, length, Option, Some, None, ⊤}
+use Rattle.std.specs.Prelude.{◌≡◌, ℕ, ◌+◌, ◌*◌, ◌<◌, not, nat_le, [], ◌∷◌, ◌++◌, filter, length, Option, Some, None, ⊤}
 use Rattle.td_limits.specs.declared.limits.TheConstants.{DAY_RANGE}
-use Rattle.td_layer.specs.declared.values.Cell.{Cell}
 use Rattle.td_model.specs.declared.history.What.{What}
 use Rattle.td_model.specs.declared.history.What.TheVariants as what
 use Rattle.td_model.specs.Catalog.{Catalog}
@@ -12,6 +11,7 @@ use Rattle.td_tagidx.specs.Indexed.{Subtables, with_subtable, IsAbsent}
 use Rattle.td_rows.specs.Puts.{rows_after}
 use Rattle.td_tables.specs.declared.contents.Part.{Part}
 use Rattle.td_tables.specs.declared.contents.Part.TheVariants as part
+use Rattle.td_tables.specs.Kinds.{HasKinds}
 use Rattle.td_tables.specs.Latest.{Greatest, raised_all}
 
 -- the subtables with their tags, the greatest timestamps that were ever put, the rows, the retention edge, and the
@@ -123,7 +123,8 @@ state_of version moment c k =
       halt = k.halt;
     }
 
--- what is kept beside a catalog has its subtables, and the state is sound
+-- what is kept beside a catalog has its subtables, the state is sound, and each column is of a kind that columns have
 pub record IsRight (version moment : ℕ) (c : Catalog) (k : Kept) : Type 0 where
   pub subtables : k.subtables ≡ subtables_of c
   pub sound : IsSound (state_of version moment c k)
+  pub kinds : HasKinds c

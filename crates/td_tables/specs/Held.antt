@@ -1,5 +1,5 @@
 -- A state that is held in memory: which entries it can take, and which it can take without further memory.
-use Rattle.std.specs.Prelude.{◌≡◌, ℕ, ◌<◌, List, Option}
+use Rattle.std.specs.Prelude.{◌≡◌, ℕ, ◌<◌, Option}
 use Rattle.td_limits.specs.declared.limits.TheConstants.{LAST_VERSION}
 use Rattle.td_model.specs.declared.history.What.{What}
 use Rattle.td_model.specs.declared.history.Entry.{Entry}
@@ -9,6 +9,7 @@ use Rattle.td_catalog.specs.Kept as catalog
 use Rattle.td_verdict.specs.Sound.{IsFromEdge}
 use Rattle.td_tables.specs.declared.contents.Part.{Part}
 use Rattle.td_tables.specs.Contents.{ContentsHeld, Room, state_of, part_of, HasRoomBeside}
+use Rattle.td_tables.specs.Kinds.{DefinesKinds}
 
 -- The state; how many more supertables, tables and streams its catalog takes without further memory; and the room of
 -- what is kept beside the catalog.
@@ -40,11 +41,12 @@ catalog_held h =
     }
 
 -- An entry may come next in a state: it may follow the catalog, no row of it lies before the retention edge, which
--- doesn't fall, and there is a version for it.
+-- doesn't fall, there is a version for it, and the columns that it defines are of kinds that columns have.
 pub record CanTake (w : What) (s : State) : Type 0 where
   pub follows : CanFollow w s.catalog
   pub edge : IsFromEdge s.edge w
   pub version : s.version < LAST_VERSION
+  pub kinds : DefinesKinds w
 
 -- an entry, with what it changes in the catalog and its part beside it, in their memory
 pub record PreparedEntry : Type 0 where

@@ -1,3 +1,4 @@
 pub mod Latest
 pub mod Contents
 pub mod Held
+pub mod Kinds

@@ -1,10 +1,10 @@
 //! The state in memory.
 ghost use Rattle.std.specs.Prelude.{◌≡◌, ◌<◌, ◌≤◌, ◌+◌, ◌^◌, [], ◌∷◌, IfOk, IsTrue, Some, false};
 ghost use Rattle.td_model.specs.declared.language.Query.{Query};
-ghost use Rattle.td_model.specs.Built.{is_write, is_built, is_row_query};
+ghost use Rattle.td_model.specs.Built.{is_write, is_built};
 ghost use Rattle.td_model.specs.State.{step, empty_state};
 ghost use Rattle.td_catalog.specs.Kept.{change_of, IsReadyFor};
-ghost use Rattle.td_verdict.specs.Sound.{IsSound, IsSoundPlan, has_now};
+ghost use Rattle.td_verdict.specs.Sound.{IsSound, IsSoundPlan, IsBounded, has_now};
 ghost use Rattle.td_verdict.specs.Queries.{query_verdict};
 ghost use Rattle.td_verdict.specs.Plans.{plan_of};
 ghost use Rattle.td_verdict.specs.Answers.{header};
@@ -13,6 +13,7 @@ ghost use Rattle.td_told.specs.Journal.{halt_at};
 ghost use Rattle.td_told.specs.Verdict.{reads_clock, closed_cause, entry_verdict, verdict};
 ghost use Rattle.td_tables.specs.Contents.{part_of, HasRoomBeside};
 ghost use Rattle.td_tables.specs.Held.{catalog_held, CanTake, IsReady};
+ghost use Rattle.td_tables.specs.Kinds.{NamesKinds};
 
 use crate::contents::{Contents, Part};
 use crate::prepared::Prepared;
@@ -24,7 +25,7 @@ use td_fields::header;
 use td_layer::{Copied, Name, NoMem, Seq};
 use td_limits::{LAST_TIMESTAMP, LAST_VERSION};
 use td_model::{Cause, Entry, Plan, Query, Stmt, What};
-use td_rows::RowTree;
+use td_rows::RowView;
 
 /// The state of a database in memory. Contracts see the state, and how much it takes without further memory.
 ///
@@ -119,7 +120,8 @@ impl Tables {
         requires built { IsTrue (is_built stmt.now) }
         requires moment { moment ≤ LAST_TIMESTAMP }
         ensures verdict { IfOk result (λ answer. verdict_of answer ≡ entry_verdict stmt.now self.now.state moment) }
-        ensures takes { IfOk result (λ answer. IfOk answer (λ accepted. CanTake accepted.0 self.now.state)) }
+        ensures takes { NamesKinds stmt.now
+            → IfOk result (λ answer. IfOk answer (λ accepted. CanTake accepted.0 self.now.state)) }
     {
         if let Some(cause) = self.closed_cause() {
             return Ok(Err(cause));
@@ -131,12 +133,13 @@ impl Tables {
 
     /// What a write, or a text that is no statement, meets at a moment in milliseconds since 1970: it is accepted, with
     /// what its entry does and its count of rows, or refused with the first cause that applies. The state can take what
-    /// is accepted.
+    /// is accepted, where the columns that the statement defines are of kinds that columns have.
     pub fn judge(&self, stmt: &Stmt, moment: u64) -> Result<Result<(What, u32), Cause>, NoMem>
         requires clock { IsTrue (reads_clock stmt.now) }
         requires moment { moment ≤ LAST_TIMESTAMP }
         ensures verdict { IfOk result (λ answer. verdict_of answer ≡ verdict stmt.now self.now.state [] moment) }
-        ensures takes { IfOk result (λ answer. IfOk answer (λ accepted. CanTake accepted.0 self.now.state)) }
+        ensures takes { NamesKinds stmt.now
+            → IfOk result (λ answer. IfOk answer (λ accepted. CanTake accepted.0 self.now.state)) }
     {
         if let Stmt::Wrong(cause) = stmt {
             let cause = cause.copy()?;
@@ -208,14 +211,15 @@ impl Tables {
         self.contents.stop(self.version);
     }
 
-    /// What a row query meets: it passes with its plan, or is refused with the first cause that applies. The plan of a
-    /// query without NOW is sound.
+    /// What a query meets: it passes with its plan, or is refused with the first cause that applies. The plan of a query
+    /// without NOW is sound. It can be answered in any case: its timestamps end in the range of time, and its interval
+    /// has durations in their bounds.
     pub fn plan(&self, query: &Query) -> Result<Result<Plan, Cause>, NoMem>
-        requires { IsTrue (is_row_query query.now) }
         ensures verdict { IfOk result (λ answer. query_verdict_of answer
             ≡ query_verdict query.now self.now.state.catalog) }
         ensures plan { IfOk result (λ answer. IfOk answer (λ plan. plan ≡ plan_of query.now self.now.state.catalog)) }
         ensures sound { has_now query.now ≡ false → IfOk result (λ answer. IfOk answer IsSoundPlan) }
+        ensures bounded { IfOk result (λ answer. IfOk answer IsBounded) }
     {
         let answer = bind_query(self.alloc, query, &self.catalog, self.contents.index())?;
         Ok(answer)
@@ -231,10 +235,10 @@ impl Tables {
     }
 
     /// The rows of the state, of the same nodes, which later entries leave as they are.
-    pub fn share_rows(&self) -> Result<RowTree, NoMem>
+    pub fn share_rows(&self) -> Result<RowView, NoMem>
         ensures { IfOk result (λ rows. rows ≡ self.now.state.rows) }
     {
-        let rows = self.contents.rows().share()?;
+        let rows = RowView::of(self.alloc, self.contents.rows())?;
         Ok(rows)
     }
 }

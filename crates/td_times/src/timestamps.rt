@@ -5,7 +5,7 @@ ghost use Rattle.std.specs.List.{list_all};
 ghost use Rattle.std.specs.Option.{option_map};
 ghost use Rattle.std.specs.Result.{result_ok};
 ghost use Rattle.jiff_core.specs.Calendar.{IsEpochDay};
-ghost use Rattle.td_times.specs.Times.{a_second, SaysTime};
+ghost use Rattle.td_times.specs.Times.{a_day, a_second, SaysTime};
 ghost use Rattle.td_times.specs.Stamps.{number_of, digits_at, past_byte, day_number_of, date_of, second_of, clock_of, fraction_of, timestamp_of};
 
 use crate::fault::TimeFault;
@@ -108,7 +108,7 @@ fn date(text: &[u8]) -> Option<(i64, &[u8])>
 #[tactic(auto, unfolding(crate::specs::Stamps::second_of))]
 fn second(hour: u32, minute: u32, second: u32) -> Option<u32>
     ensures value { result ≡ second_of hour minute second }
-    ensures bound { IfSome result (λ n. n < 86_400_000) }
+    ensures bound { IfSome result (λ n. n < a_day) }
 {
     if hour < 24 && minute < 60 && second < 60 {
         Some(((hour * 60 + minute) * 60 + second) * 1000)
@@ -121,7 +121,7 @@ fn second(hour: u32, minute: u32, second: u32) -> Option<u32>
 #[tactic(auto, unfolding(crate::specs::Stamps::clock_of))]
 fn clock(text: &[u8]) -> Option<(u32, &[u8])>
     ensures value { option_map (λ p. (p.0, p.1.now)) result ≡ clock_of text.now }
-    ensures bound { IfSome result (λ p. p.0 < 86_400_000) }
+    ensures bound { IfSome result (λ p. p.0 < a_day) }
 {
     let (hour, rest) = digits(text, 2)?;
     let rest = past_byte(rest, b':')?;

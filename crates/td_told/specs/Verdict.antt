@@ -13,6 +13,7 @@ use Rattle.td_limits.specs.declared.limits.TheConstants.{LAST_VERSION}
 use Rattle.td_verdict.specs.Causes.{when, first_cause}
 use Rattle.td_verdict.specs.Writes.{refused_or, write_verdict}
 use Rattle.td_verdict.specs.Queries.{query_verdict}
+use Rattle.td_verdict.specs.Answered as answered
 use Rattle.td_verdict.specs.Answers as answers
 
 -- whether a statement's turn reads the clock: that of a write and of a text that is no statement does, that of a query
@@ -56,5 +57,5 @@ header (stmt.Select query) s = answers.header query s.catalog
 header _ s = []
 
 abbrev pub answer : Stmt → State → List (List Cell)
-answer (stmt.Select query) s = answers.answer query s
+answer (stmt.Select query) s = answered.answer query s
 answer _ s = []

@@ -1,8 +1,7 @@
 //! One line's turn on a core.
-ghost use Rattle.std.specs.Prelude.{◌≡◌, ◌⊎◌, ◌≤◌, false, IfOk, OnErr, IsTrue};
+ghost use Rattle.std.specs.Prelude.{◌≡◌, ◌⊎◌, ◌≤◌, ◌<◌, false, IfOk, OnErr, IsTrue};
 ghost use Rattle.td_limits.specs.declared.limits.TheConstants.{SESSIONS};
 ghost use Rattle.td_model.specs.declared.language.Query.{Query as AQuery};
-ghost use Rattle.td_model.specs.Built.{is_row_query};
 ghost use Rattle.td_model.specs.State.{State};
 ghost use Rattle.td_parse.specs.Statements.{IsAnswer};
 ghost use Rattle.td_told.specs.Verdict.{reads_clock, answer, header};
@@ -12,8 +11,10 @@ ghost use Rattle.td_top.specs.Replies.{accepted_as, submit_reply, IsQueryReply, 
 ghost use Rattle.td_top.specs.Turns.{TurnOn, LineTurn};
 
 use std::alloc::Global;
+use std::marker::Brand;
+use std::sync::ledger::{Blank, Ledger};
 use td_core::{Core, PinEnd, Pinned, Room, Submitted};
-use td_layer::NoMem;
+use td_layer::{NoMem, Steps};
 use td_model::{Cause, Query, Reply, Stmt};
 use td_outside::{Clock, Store};
 use td_parse::{Line, statement};
@@ -65,14 +66,17 @@ fn write_turn<S: Store, C: Clock>(
 }
 
 // The whole answer of a pinned query.
-fn whole_answer<S: Store>(pinned: &mut Pinned<S>) -> Result<Reply, NoMem>
+fn whole_answer<S: Store, L: Ledger>(
+    pinned: &mut Pinned<S>,
+    steps: &mut Steps<L>,
+) -> Result<Reply, NoMem>
     ensures slots { pinned.new.slots ≡ pinned.old.slots }
     ensures answer { (q : AQuery) (s : State) → Sees pinned.old q s 0
         → IfOk result (λ r. r ≡ Reply.Answer s.version (header (Stmt.Select q) s) (answer (Stmt.Select q) s)) }
 {
     let header = pinned.header().copy()?;
     let prefix = pinned.prefix();
-    match pinned.rows(u64::MAX) {
+    match pinned.rows(u64::MAX, steps) {
         Ok(rows) => Ok(Reply::Answer {
             prefix,
             header,
@@ -82,15 +86,23 @@ fn whole_answer<S: Store>(pinned: &mut Pinned<S>) -> Result<Reply, NoMem>
     }
 }
 
-// The reply to a query that is pinned, which is released.
-fn pinned_reply<S: Store, C: Clock>(core: &mut Core<S, C>, pinned: Pinned<S>) -> Reply
+// The reply to a query that is pinned, which is released. Its steps are counted on a ledger of their own.
+fn pinned_reply<S: Store, C: Clock, L: Ledger>(
+    core: &mut Core<S, C>,
+    pinned: Pinned<S>,
+    blank: Blank,
+) -> Reply
+    requires name { blank.name ≡ L.name }
+    requires parts { blank.parts ≡ L.parts }
+    requires some { 0 < blank.parts }
     ensures core { core.new ≡ core.old }
     ensures reply { (q : AQuery) (s : State) → Sees pinned q s 0
         → (result ≡ Reply.Answer s.version (header (Stmt.Select q) s) (answer (Stmt.Select q) s))
         ⊎ (result ≡ Reply.NoMemory) }
 {
     let mut pinned = pinned;
-    let reply = match whole_answer(&mut pinned) {
+    let mut steps: Steps<L> = Steps::new(blank);
+    let reply = match whole_answer(&mut pinned, &mut steps) {
         Ok(reply) => reply,
         Err(NoMem) => Reply::NoMemory,
     };
@@ -106,9 +118,8 @@ fn starved<S: Store>(room: Room<S>) -> Reply
     Reply::NoMemory
 }
 
-// The reply to a row query in the state of a core.
+// The reply to a query in the state of a core.
 fn query_reply<S: Store, C: Clock>(alloc: Global, core: &mut Core<S, C>, query: &Query) -> Reply
-    requires { IsTrue (is_row_query query.now) }
     ensures core { core.new ≡ core.old }
     ensures reply { IsQueryReply query.now core.old.state result }
 {
@@ -116,7 +127,7 @@ fn query_reply<S: Store, C: Clock>(alloc: Global, core: &mut Core<S, C>, query: 
         return Reply::NoMemory;
     };
     match core.pin(query, room) {
-        PinEnd::Pinned(pinned) => pinned_reply(core, pinned),
+        PinEnd::Pinned(pinned) => pinned_reply::<S, C, Brand>(core, pinned, Blank::new(1)),
         PinEnd::Refused {
             cause,
             prefix,
@@ -141,14 +152,14 @@ fn not_built<S: Store, C: Clock>(core: &Core<S, C>) -> Reply
     }
 }
 
-// The turn of a statement that is no write: a row query is answered, and nothing else is built.
+// The turn of a statement that is no write: a query is answered, and nothing else is built.
 fn read_turn<S: Store, C: Clock>(alloc: Global, core: &mut Core<S, C>, stmt: &Stmt) -> Reply
     requires { reads_clock stmt.now ≡ false }
     ensures core { core.new ≡ core.old }
     ensures reply { IsReadReply stmt.now core.old.state result }
 {
     match stmt {
-        Stmt::Select(query) if query.is_row_query() => query_reply(alloc, core, query),
+        Stmt::Select(query) => query_reply(alloc, core, query),
         _ => not_built(core),
     }
 }

@@ -17,6 +17,7 @@ use Rattle.td_layer.specs.declared.values.Value.{Value}
 use Rattle.td_layer.specs.declared.values.Value.TheVariants as value
 use Rattle.td_layer.specs.declared.values.Cell.{Cell}
 use Rattle.td_layer.specs.declared.values.Cell.TheVariants as cell
+use Rattle.td_layer.specs.declared.values.Func.TheVariants.{Avg, Count, Sum}
 use Rattle.td_model.specs.declared.catalog.Column.{Column}
 use Rattle.td_model.specs.declared.language.Lit.{Lit}
 use Rattle.td_model.specs.declared.language.Lit.TheVariants as lit
@@ -32,12 +33,13 @@ use Rattle.td_model.specs.declared.language.WindowDef.TheVariants as window
 use Rattle.td_model.specs.declared.language.Query.{Query}
 use Rattle.td_model.specs.declared.history.Verdict.{Verdict}
 use Rattle.td_model.specs.declared.history.Verdict.TheVariants.{Pass, Refuse}
-use Rattle.td_model.specs.declared.report.Cause.TheVariants.{UnknownTable, UnknownColumn, TypeMismatch, BadSelect, BadLimit}
+use Rattle.td_model.specs.declared.report.Cause.TheVariants.{UnknownTable, UnknownColumn, TypeMismatch, BadSelect, BadWindow, BadLimit}
 use Rattle.td_model.specs.Catalog.{Catalog}
 use Rattle.td_model.specs.State.{State, empty_state}
 use Rattle.td_verdict.specs.Queries.{query_verdict}
 use Rattle.td_verdict.specs.Plans.{plan_of}
-use Rattle.td_verdict.specs.Answers.{answer, header}
+use Rattle.td_verdict.specs.Answered.{answer}
+use Rattle.td_verdict.specs.Answers.{header}
 
 abbrev column : List ℕ → Kind → Column
 column name kind = record { name = name; kind = kind }
@@ -115,6 +117,53 @@ the_last_but_one : answer (record (some_of (item.TbName ∷ item.Col (codes "ts"
     ≡ (str (codes "d1") ∷ num 15 ∷ []) ∷ (str (codes "d1") ∷ num 5 ∷ []) ∷ []
 the_last_but_one = refl
 
+-- ---- aggregates, windows and PARTITION BY
+
+-- `SELECT location, _wstart, AVG(voltage) FROM meters PARTITION BY location INTERVAL(10a)`
+abbrev by_location : Query
+by_location = record (some_of (item.Col (codes "location") ∷ item.WStart ∷ item.Fun Avg (codes "voltage") ∷ []) (codes "meters") [])
+    { parts = part.Tag (codes "location") ∷ []; window = window.Interval 10 0 10 }
+
+-- NULL comes before texts, and the windows of a group by their starts; AVG of NULLs alone is NULL
+averages : answer by_location state
+    ≡ (cell.Null ∷ num 0 ∷ cell.Frac (pos 220) 1 ∷ []) ∷ (cell.Null ∷ num 10 ∷ cell.Frac (pos 221) 1 ∷ [])
+    ∷ (str (codes "a") ∷ num 0 ∷ cell.Frac (pos 219) 1 ∷ []) ∷ (str (codes "a") ∷ num 10 ∷ cell.Null ∷ []) ∷ []
+averages = refl
+
+their_header : header by_location catalog ≡ codes "location" ∷ codes "_wstart" ∷ codes "AVG(voltage)" ∷ []
+their_header = refl
+
+-- ORDER BY _wstart DESC is the ascending list reversed, in which windows of one start keep their order
+latest : answer (record by_location { order = order.Desc (codes "_wstart"); limit = Some (pos 1) }) state
+    ≡ (str (codes "a") ∷ num 10 ∷ cell.Null ∷ []) ∷ []
+latest = refl
+
+abbrev counts : Query
+counts = some_of (item.CountAll ∷ item.Fun Count (codes "voltage") ∷ item.Fun Sum (codes "voltage") ∷ []) (codes "meters") []
+
+-- a row of NULL is counted, and its value isn't
+all_rows : answer counts state ≡ (num 4 ∷ num 3 ∷ num 660 ∷ []) ∷ []
+all_rows = refl
+
+abbrev late : List Cond
+late = where_ (codes "ts") op.Gt (lit.Num (pos 100)) ∷ []
+
+-- over no row there is one row without a window and PARTITION BY, and none with
+over_no_row : answer (record counts { conds = late }) state ≡ (num 0 ∷ num 0 ∷ cell.Null ∷ []) ∷ []
+over_no_row = refl
+
+no_window : answer (record counts { conds = late; window = window.Interval 10 0 10 }) state ≡ []
+no_window = refl
+
+no_group : answer (record by_location { conds = late }) state ≡ []
+no_group = refl
+
+-- the cells of PARTITION BY stand in the plan, one list a table
+its_parts : (plan_of by_location catalog).parts ≡ (str (codes "a") ∷ []) ∷ (cell.Null ∷ []) ∷ []
+its_parts = refl
+
+-- ---- timestamps
+
 -- the ends of the timestamps are both included
 from_above : (plan_of (all_of (codes "d1") (where_ (codes "ts") op.Gt (lit.Num (pos 5)) ∷ where_ (codes "ts") op.Lt (lit.Num (pos 15)) ∷ [])) catalog).lo ≡ 6
 from_above = refl
@@ -148,3 +197,36 @@ a_window_without_windows = refl
 
 below_no_row : met (record (all_of (codes "meters") []) { limit = Some (negsuc 0) }) ≡ Refuse BadLimit
 below_no_row = refl
+
+-- ---- causes of select lists and windows
+
+a_window_passes : met by_location ≡ Pass
+a_window_passes = refl
+
+a_loose_column : met (some_of (item.Col (codes "voltage") ∷ item.CountAll ∷ []) (codes "meters") []) ≡ Refuse BadSelect
+a_loose_column = refl
+
+no_column_of_a_window : met (record by_location { window = window.State (codes "volts") }) ≡ Refuse UnknownColumn
+no_column_of_a_window = refl
+
+no_column_of_an_aggregate : met (some_of (item.Fun Sum (codes "volts") ∷ []) (codes "meters") []) ≡ Refuse UnknownColumn
+no_column_of_an_aggregate = refl
+
+no_part : met (record counts { parts = part.Tag (codes "place") ∷ [] }) ≡ Refuse UnknownColumn
+no_part = refl
+
+too_many_slides : met (record counts { window = window.Interval 1025000 0 1000 }) ≡ Refuse BadWindow
+too_many_slides = refl
+
+as_many_slides_as_may_be : met (record counts { window = window.Interval 1024000 0 1000 }) ≡ Pass
+as_many_slides_as_may_be = refl
+
+-- states of a supertable are cut table by table, and those of a table need no PARTITION BY
+states_of_many : met (record counts { window = window.State (codes "voltage") }) ≡ Refuse BadWindow
+states_of_many = refl
+
+states_of_each : met (record counts { window = window.State (codes "voltage"); parts = part.TbName ∷ [] }) ≡ Pass
+states_of_each = refl
+
+states_of_one : met (record counts { source = codes "d1"; window = window.State (codes "voltage") }) ≡ Pass
+states_of_one = refl

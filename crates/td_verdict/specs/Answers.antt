@@ -1,5 +1,5 @@
--- Which rows a row query picks of a state, and what it shows of them.
-use Rattle.std.specs.Prelude.{ℕ, zero, suc, ◌+◌, ℤ, pos, negsuc, Bool, true, false, ◌==◌, if◌then◌else◌, List, [], ◌∷◌, map, filter, length, drop, take, reverse, Option, Some, None, is_some, slice_get}
+-- Which rows a query picks of a state, what a row query shows of them, and the header of any query's answer.
+use Rattle.std.specs.Prelude.{ℕ, zero, suc, ◌+◌, ℤ, pos, negsuc, Bool, true, false, ◌==◌, if◌then◌else◌, List, [], ◌∷◌, ◌++◌, map, filter, length, drop, take, reverse, Option, Some, None, slice_get}
 use Rattle.std.specs.declared.cmp.Ordering.{Ordering}
 use Rattle.std.specs.Ordering.{nat_cmp, ordering_then}
 use Rattle.std.specs.BTreeMap.{insert_entry}
@@ -10,6 +10,8 @@ use Rattle.td_layer.specs.declared.values.Key.{Key}
 use Rattle.td_layer.specs.declared.values.Row.{Row}
 use Rattle.td_layer.specs.declared.values.Cell.{Cell}
 use Rattle.td_layer.specs.declared.values.Cell.TheVariants as cell
+use Rattle.td_layer.specs.declared.values.Func.{Func}
+use Rattle.td_layer.specs.declared.values.Func.TheVariants.{Count, Sum, Min, Max, Avg, First, Last, Spread}
 use Rattle.td_model.specs.declared.catalog.Column.{Column}
 use Rattle.td_model.specs.declared.catalog.Schema.{Schema}
 use Rattle.td_model.specs.declared.language.Item.{Item}
@@ -18,12 +20,12 @@ use Rattle.td_model.specs.declared.language.ItemKind.TheVariants as item
 use Rattle.td_model.specs.declared.language.OrderBy.{OrderBy}
 use Rattle.td_model.specs.declared.language.OrderBy.TheVariants as order
 use Rattle.td_model.specs.declared.language.Query.{Query}
-use Rattle.td_model.specs.Catalog.{Catalog, table_named}
+use Rattle.td_model.specs.Catalog.{Catalog}
 use Rattle.td_model.specs.State.{State, Rows}
 use Rattle.td_verdict.specs.declared.comparison.Comparison.{Comparison}
 use Rattle.td_verdict.specs.Names.{names_of}
 use Rattle.td_verdict.specs.Fields.{fields, row_cells, place_in, comparisons_of, all_hold}
-use Rattle.td_verdict.specs.Queries.{source_schema}
+use Rattle.td_verdict.specs.Queries.{reads_table, source_schema}
 use Rattle.td_verdict.specs.Plans.{Numbered, source_tables}
 
 -- ---- the rows that are picked
@@ -111,20 +113,28 @@ cut q rows = limited q.limit (drop (count_from q.skip) rows)
 abbrev pub answer_of : Query → List ℕ → Found → List (List Cell)
 answer_of q places found = map (λ (e : Key × List Cell). shown places e.1) (cut q (ordered q.order found))
 
--- whether the source is a table, and not a supertable
-abbrev pub reads_table : Query → Catalog → Bool
-reads_table q c = is_some (table_named q.source c)
-
-abbrev pub answer : Query → State → List (List Cell)
-answer q s = answer_of q (shown_places (reads_table q s.catalog) (source_schema q.source s.catalog) q) (picked q s)
+abbrev pub row_answer : Query → State → List (List Cell)
+row_answer q s = answer_of q (shown_places (reads_table q s.catalog) (source_schema q.source s.catalog) q) (picked q s)
 
 -- ---- the header: of each item its alias, or else its name
 
--- no other thing stands in a row query
+abbrev pub func_text : Func → List ℕ
+func_text Count = codes "COUNT"
+func_text Sum = codes "SUM"
+func_text Min = codes "MIN"
+func_text Max = codes "MAX"
+func_text Avg = codes "AVG"
+func_text First = codes "FIRST"
+func_text Last = codes "LAST"
+func_text Spread = codes "SPREAD"
+
 abbrev pub item_text : ItemKind → List ℕ
 item_text item.TbName = codes "TBNAME"
 item_text (item.Col name) = name
-item_text _ = []
+item_text item.WStart = codes "_wstart"
+item_text item.WEnd = codes "_wend"
+item_text item.CountAll = codes "COUNT(*)"
+item_text (item.Fun f name) = func_text f ++ codes "(" ++ name ++ codes ")"
 
 abbrev pub item_title : Item → List ℕ
 item_title i = unwrap_or i.alias (item_text i.what)

@@ -4,8 +4,14 @@ pub mod Values
 pub mod Streams
 pub mod Writes
 pub mod Fields
+pub mod Parts
+pub mod Refusals
 pub mod Queries
 pub mod Plans
 pub mod Answers
+pub mod Groups
+pub mod Windowed
+pub mod Arranged
+pub mod Answered
 pub mod Valid
 pub mod Sound

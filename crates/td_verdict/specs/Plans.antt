@@ -1,4 +1,4 @@
--- What a row query reads: the tables of its source that its conditions on tags leave, and the timestamps that its
+-- What a query reads: the tables of its source that its conditions on tags leave, and the timestamps that its
 -- conditions on the first column leave.
 use Rattle.std.specs.Prelude.{ℕ, ◌+◌, ◌-◌, ◌&&◌, min, max, ℤ, pos, negsuc, Bool, true, false, ◌==◌, nat_lt, if◌then◌else◌, List, [], ◌∷◌, map, filter, length, Option, is_some}
 use Rattle.std.specs.Option.{option_map_or}
@@ -18,6 +18,7 @@ use Rattle.td_verdict.specs.declared.source.Source.{Source}
 use Rattle.td_verdict.specs.declared.source.Source.TheVariants.{Table, Stable, Other}
 use Rattle.td_verdict.specs.declared.comparison.Comparison.{Comparison}
 use Rattle.td_verdict.specs.Fields.{comparisons_of}
+use Rattle.td_verdict.specs.Parts.{part_of}
 use Rattle.td_verdict.specs.Queries.{source_of, source_schema}
 use Rattle.td_verdict.specs.Writes.{time_from}
 
@@ -119,7 +120,7 @@ abbrev pub plan_over : Query → Schema → List Numbered → List Comparison �
 plan_over q s tables ps target = record {
   query = q;
   tables = map (λ (e : Numbered). e.0) tables;
-  parts = map (λ (e : Numbered). []) tables;
+  parts = map (λ (e : Numbered). part_of s q.parts e.1.name e.1.tags) tables;
   tags = map (λ (e : Numbered). e.1.tags) tables;
   names = map (λ (e : Numbered). e.1.name) tables;
   schema = s;

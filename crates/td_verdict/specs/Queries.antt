@@ -1,10 +1,8 @@
--- What a row query meets in a catalog: a SELECT without aggregate, window and PARTITION BY.
-use Rattle.std.specs.Prelude.{ℕ, ℤ, pos, int_le, Bool, true, false, not, ◌&&◌, ◌||◌, ◌==◌, List, [], ◌∷◌, length, Option, Some, None, is_none}
+-- What a query meets in a catalog.
+use Rattle.std.specs.Prelude.{ℕ, ℤ, pos, int_le, Bool, true, false, not, ◌&&◌, ◌||◌, ◌==◌, List, [], ◌∷◌, length, Option, Some, None, is_none, is_some}
 use Rattle.std.specs.Ordering.{int_eq}
-use Rattle.std.specs.Str.{bytes_eq}
 use Rattle.std.specs.List.{list_any}
 use Rattle.std.specs.Option.{option_map_or, option_or}
-use lib.Chars.{codes}
 use Rattle.td_model.specs.declared.catalog.Column.{Column}
 use Rattle.td_model.specs.declared.catalog.Schema.{Schema}
 use Rattle.td_model.specs.declared.language.Item.{Item}
@@ -16,6 +14,8 @@ use Rattle.td_model.specs.declared.language.PartBy.TheVariants as part
 use Rattle.td_model.specs.declared.language.OrderBy.{OrderBy}
 use Rattle.td_model.specs.declared.language.OrderBy.TheVariants as order
 use Rattle.td_model.specs.declared.language.Query.{Query}
+use Rattle.td_model.specs.declared.language.WindowDef.{WindowDef}
+use Rattle.td_model.specs.declared.language.WindowDef.TheVariants as window
 use Rattle.td_model.specs.declared.history.Verdict.{Verdict}
 use Rattle.td_model.specs.declared.history.Verdict.TheVariants.{Pass, Refuse}
 use Rattle.td_model.specs.declared.report.Cause.{Cause}
@@ -25,9 +25,10 @@ use Rattle.td_model.specs.Catalog.{Catalog, stable_named, table_named, no_schema
 use Rattle.td_verdict.specs.declared.source.Source.{Source}
 use Rattle.td_verdict.specs.declared.source.Source.TheVariants.{Table, Stable, Other}
 use Rattle.td_verdict.specs.Causes.{when, first_cause}
-use Rattle.td_verdict.specs.Names.{is_taken, is_target, table_schema, stable_schema, column_named, is_first}
+use Rattle.td_verdict.specs.Names.{is_taken, is_target, table_schema, stable_schema, column_named}
 use Rattle.td_verdict.specs.Values.{suits}
 use Rattle.td_verdict.specs.Fields.{fields, part_column}
+use Rattle.td_verdict.specs.Refusals.{is_window_start, is_bad_selection, is_bad_window}
 use Rattle.td_verdict.specs.Streams.{is_plain}
 use Rattle.td_verdict.specs.Writes.{first_given}
 
@@ -54,6 +55,10 @@ schema_from Other c = no_schema
 abbrev pub source_schema : List ℕ → Catalog → Schema
 source_schema name c = schema_from (source_of name c) c
 
+-- whether the source is a table, and not a supertable
+abbrev pub reads_table : Query → Catalog → Bool
+reads_table q c = is_some (table_named q.source c)
+
 -- ---- causes
 
 -- a name that is no column or tag
@@ -62,15 +67,18 @@ is_unknown s name = is_none (column_named (fields s) name)
 
 abbrev pub is_item_unknown : Schema → ItemKind → Bool
 is_item_unknown s (item.Col name) = is_unknown s name
+is_item_unknown s (item.Fun f name) = is_unknown s name
 is_item_unknown s _ = false
 
 abbrev pub is_part_unknown : Schema → PartBy → Bool
 is_part_unknown s (part.Tag name) = is_unknown s name
 is_part_unknown s part.TbName = false
 
--- the word of ORDER BY that names a window's start
-abbrev pub is_window_start : List ℕ → Bool
-is_window_start name = bytes_eq name (codes "_wstart")
+abbrev pub is_window_unknown : Schema → WindowDef → Bool
+is_window_unknown s window.Whole = false
+is_window_unknown s (window.Interval len offset slide) = false
+is_window_unknown s (window.Session column tol) = is_unknown s column
+is_window_unknown s (window.State column) = is_unknown s column
 
 abbrev pub is_order_unknown : Schema → OrderBy → Bool
 is_order_unknown s order.Plain = false
@@ -80,7 +88,7 @@ is_order_unknown s (order.Desc name) = not (is_window_start name) && is_unknown 
 abbrev pub has_unknown : Schema → Query → Bool
 has_unknown s q =
     list_any (λ (i : Item). is_item_unknown s i.what) q.items || list_any (λ (c : Cond). is_part_unknown s c.of) q.conds
-    || is_order_unknown s q.order
+    || list_any (is_part_unknown s) q.parts || is_window_unknown s q.window || is_order_unknown s q.order
 
 -- a condition's literal doesn't suit its column or tag
 abbrev pub mismatch_at : Option Column → Cond → Option Cause
@@ -90,21 +98,6 @@ mismatch_at (Some column) c = when (not (suits column.kind 0 c.lit)) (cause.Type
 abbrev pub mismatch_cause : Schema → List Cond → Option Cause
 mismatch_cause s conds = first_given (λ (c : Cond). mismatch_at (part_column s c.of) c) conds
 
--- an item needs a window
-abbrev pub needs_window : ItemKind → Bool
-needs_window item.WStart = true
-needs_window item.WEnd = true
-needs_window _ = false
-
--- the order is by another thing than the first column
-abbrev pub is_order_other : List Column → OrderBy → Bool
-is_order_other columns order.Plain = false
-is_order_other columns (order.Asc name) = not (is_first columns name)
-is_order_other columns (order.Desc name) = not (is_first columns name)
-
-abbrev pub is_bad_selection : Schema → Query → Bool
-is_bad_selection s q = list_any (λ (i : Item). needs_window i.what) q.items || is_order_other s.columns q.order
-
 -- a count of rows of LIMIT or OFFSET is 0 to the greatest that there is
 abbrev pub is_count : ℤ → Bool
 is_count n = int_le (pos 0) n && int_le n (pos LAST_COUNT)
@@ -112,12 +105,13 @@ is_count n = int_le (pos 0) n && int_le n (pos LAST_COUNT)
 abbrev pub is_bad_limit : Query → Bool
 is_bad_limit q = not (is_count q.skip) || option_map_or (λ n. not (is_count n)) q.limit false
 
--- the causes of a query over the schema of its source
-abbrev pub body_cause : Schema → Query → Option Cause
-body_cause s q = first_cause (
+-- the causes of a query over the schema of its source, which is a table or else a supertable
+abbrev pub body_cause : Bool → Schema → Query → Option Cause
+body_cause of_table s q = first_cause (
     when (has_unknown s q) cause.UnknownColumn
     ∷ mismatch_cause s q.conds
     ∷ when (is_bad_selection s q) cause.BadSelect
+    ∷ when (is_bad_window of_table s q q.window) cause.BadWindow
     ∷ when (is_bad_limit q) cause.BadLimit
     ∷ [])
 
@@ -129,7 +123,7 @@ source_cause q c = first_cause (
     ∷ [])
 
 abbrev pub query_cause : Query → Catalog → Option Cause
-query_cause q c = option_or (source_cause q c) (body_cause (source_schema q.source c) q)
+query_cause q c = option_or (source_cause q c) (body_cause (reads_table q c) (source_schema q.source c) q)
 
 abbrev pub passes_or : Option Cause → Verdict
 passes_or None = Pass

@@ -1,5 +1,5 @@
 -- What is true of each entry that a write is accepted as, of each row of a state, and of the plan of a query.
-use Rattle.std.specs.Prelude.{◌≡◌, ◌≤◌, ◌*◌, ℕ, Bool, true, false, List, [], drop, length, All, Option, Some, None, ⊤}
+use Rattle.std.specs.Prelude.{◌≡◌, ◌≤◌, ◌*◌, ℕ, Bool, true, false, List, [], ◌∷◌, drop, length, All, Option, Some, None, ⊤}
 use Rattle.std.specs.List.{AllZip, list_any}
 use Rattle.std.specs.List.Sorted.{IsStrictlySortedBy}
 use Rattle.std.specs.Ordering.{nat_cmp}
@@ -12,21 +12,24 @@ use Rattle.td_layer.specs.declared.values.Value.{Value}
 use Rattle.td_layer.specs.declared.values.Value.TheVariants as value
 use Rattle.td_limits.specs.declared.limits.TheConstants.{DAY_RANGE, LAST_TIMESTAMP}
 use Rattle.td_model.specs.declared.catalog.Column.{Column}
+use Rattle.td_model.specs.declared.catalog.Schema.{Schema}
 use Rattle.td_model.specs.declared.history.Put.{Put}
 use Rattle.td_model.specs.declared.history.What.{What}
 use Rattle.td_model.specs.declared.history.What.TheVariants as what
 use Rattle.td_model.specs.declared.language.Cond.{Cond}
 use Rattle.td_model.specs.declared.language.Lit.{Lit}
 use Rattle.td_model.specs.declared.language.Lit.TheVariants as lit
+use Rattle.td_model.specs.declared.language.PartBy.{PartBy}
 use Rattle.td_model.specs.declared.language.Query.{Query}
 use Rattle.td_model.specs.declared.plan.Plan.{Plan}
-use Rattle.td_model.specs.Built.{is_row_query}
 use Rattle.td_model.specs.Catalog.{Catalog}
 use Rattle.td_model.specs.State.{State}
 use Rattle.td_verdict.specs.Names.{table_schema, stands_twice}
 use Rattle.td_verdict.specs.Fields.{comparisons_of}
 use Rattle.td_verdict.specs.Queries.{body_cause}
-use Rattle.td_verdict.specs.Plans.{lowest, highest}
+use Rattle.td_verdict.specs.Parts.{part_of}
+use Rattle.td_verdict.specs.Plans.{lowest, highest, reads_one}
+use Rattle.td_verdict.specs.Refusals.{has_bad_bounds}
 use Rattle.td_verdict.specs.Valid.{AreTags, IsValid}
 
 -- ---- rows
@@ -96,9 +99,14 @@ is_now _ = false
 abbrev pub has_now : Query → Bool
 has_now q = list_any (λ (c : Cond). is_now c.lit) q.conds
 
+-- the cells that the PARTITION BY items give for tables of these names and tags
+abbrev pub parts_of : Schema → List PartBy → List (List ℕ) → List (List Cell) → List (List Cell)
+parts_of s parts [] tags = []
+parts_of s parts (name ∷ names) [] = []
+parts_of s parts (name ∷ names) (cells ∷ tags) = part_of s parts name cells ∷ parts_of s parts names tags
+
 -- what a plan reads is told by its query, its schema and its tables, whose lists go together
 pub record IsSoundPlan (p : Plan) : Type 0 where
-  pub form : is_row_query p.query ≡ true
   pub names_length : length p.names ≡ length p.tables
   pub tags_length : length p.tags ≡ length p.tables
   pub parts_length : length p.parts ≡ length p.tables
@@ -107,6 +115,11 @@ pub record IsSoundPlan (p : Plan) : Type 0 where
   pub lo : p.lo ≡ lowest (comparisons_of p.schema p.query.conds)
   pub hi : p.hi ≡ highest (comparisons_of p.schema p.query.conds)
   pub no_now : has_now p.query ≡ false
-  pub cause : body_cause p.schema p.query ≡ None
+  pub cause : body_cause (reads_one p) p.schema p.query ≡ None
   pub tags : All (AreTags p.schema.tags) p.tags
-  pub parts : All (λ (cells : List Cell). cells ≡ []) p.parts
+  pub parts : p.parts ≡ parts_of p.schema p.query.parts p.names p.tags
+
+-- a plan's timestamps end in the range of time, and an interval of it has durations in their bounds
+pub record IsBounded (p : Plan) : Type 0 where
+  pub time : p.hi ≤ LAST_TIMESTAMP
+  pub window : has_bad_bounds p.query.window ≡ false

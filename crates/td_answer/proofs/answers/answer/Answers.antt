@@ -8,7 +8,7 @@ use Rattle.td_model.specs.declared.plan.Plan.{Plan}
 use Rattle.td_model.specs.State.{State, Rows}
 use Rattle.td_verdict.specs.Fields.{comparisons_of}
 use Rattle.td_verdict.specs.Plans.{plan_of, reads_one}
-use Rattle.td_verdict.specs.Answers.{answer, answer_of, shown_places, picked}
+use Rattle.td_verdict.specs.Answers.{row_answer, answer_of, shown_places, picked}
 use Rattle.td_fields.proofs.OneTable.{one_is}
 use Rattle.td_answer.specs.Picks.{plan_found}
 use Rattle.td_answer.proofs.Sound.{rows_late, source_time}
@@ -17,7 +17,7 @@ use Rattle.td_answer.proofs.answers.answer.Goals as goal
 
 -- what is shown of what the plan picks is the answer
 whole : (q : Query) (s : State) (p : Plan) (kept : Rows) → p ≡ plan_of q s.catalog → plan_found p (comparisons_of p.schema p.query.conds) kept ≡ picked q s
-    → answer_of p.query (shown_places (reads_one p) p.schema p.query) (plan_found p (comparisons_of p.schema p.query.conds) kept) ≡ answer q s
+    → answer_of p.query (shown_places (reads_one p) p.schema p.query) (plan_found p (comparisons_of p.schema p.query.conds) kept) ≡ row_answer q s
 whole q s p kept plan found =
     ap (answer_of p.query (shown_places (reads_one p) p.schema p.query)) found
     ∙ ap (λ (x : Plan). answer_of x.query (shown_places (reads_one x) x.schema x.query) (picked q s)) plan

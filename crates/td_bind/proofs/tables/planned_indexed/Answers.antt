@@ -1,4 +1,4 @@
-use Rattle.std.proofs.Common.{◌≡◌, ◌∙◌, ap, sym, subst, ◌-◌, ◌+◌, filter}
+use Rattle.std.proofs.Common.{◌∙◌, ap, sym, subst, ◌-◌, ◌+◌, filter}
 use Rattle.td_model.specs.Tags.{matching}
 use Rattle.td_bind.specs.Tables.{is_planned, AreThere}
 use Rattle.td_bind.proofs.ByNumber.{planned_from_found, matching_there}

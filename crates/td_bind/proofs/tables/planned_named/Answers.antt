@@ -1,4 +1,4 @@
-use Rattle.std.proofs.Common.{◌≡◌, ◌∙◌, ap, sym, subst, filter}
+use Rattle.std.proofs.Common.{◌∙◌, ap, sym, subst, filter}
 use Rattle.std.specs.Option.{option_to_list}
 use Rattle.td_bind.specs.Tables.{is_planned, AreThere}
 use Rattle.td_bind.proofs.Named.{planned_from_named, cell_there}

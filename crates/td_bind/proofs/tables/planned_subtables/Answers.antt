@@ -1,5 +1,4 @@
-use Rattle.std.proofs.Common.{◌≡◌, ◌∙◌, ap, sym, subst, filter}
-use Rattle.std.specs.Option.{option_copied}
+use Rattle.std.proofs.Common.{◌∙◌, ap, sym, subst, filter}
 use Rattle.td_bind.specs.Tables.{is_planned, AreThere}
 use Rattle.td_bind.proofs.ByNumber.{planned_from_children, children_there}
 use Rattle.td_bind.proofs.tables.planned_subtables.Goals as goal

@@ -1,7 +1,7 @@
 use Rattle.std.proofs.Common.{◌++◌, List, Some, map, reverse, sym, ap, ◌∙◌}
 use Rattle.std.proofs.lemmas.List.Elements.{All-pop}
 use Rattle.td_model.specs.declared.windows.WinRow.{WinRow}
-use Rattle.td_query.specs.Answered.{window_rows}
+use Rattle.td_verdict.specs.Answered.{window_rows}
 use Rattle.td_query.specs.Gathered.{grouped_of, IsReady}
 use Rattle.td_query.specs.Shown.{windows_in}
 use Rattle.td_query.specs.declared.gathering.Group.{Group}

@@ -1,5 +1,5 @@
 use Rattle.std.proofs.Common.{◌≡◌, ◌++◌, All, map, reverse, length}
-use Rattle.td_query.specs.Answered.{window_rows}
+use Rattle.td_verdict.specs.Answered.{window_rows}
 use Rattle.td_query.specs.Gathered.{grouped_of, IsReady}
 use Rattle.td_query.specs.Shown.{windows_in}
 use Rattle.td_query.specs.declared.gathering.Group.{Group}

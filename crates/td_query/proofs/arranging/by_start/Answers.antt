@@ -4,7 +4,7 @@ use Rattle.std.specs.Int.{w64, cast_signed, cast_unsigned}
 use Rattle.std.specs.Prelude.{FitsSigned}
 use Rattle.std.proofs.lemmas.Int.{to_z-of_z}
 use Rattle.std.proofs.lemmas.List.{take_more, take_all}
-use Rattle.td_query.specs.Arranged.{put_by_starts}
+use Rattle.td_verdict.specs.Arranged.{put_by_starts}
 use Rattle.td_query.specs.Shown.{all_shown}
 use Rattle.td_query.proofs.Starts.{Entries, start_cmp, rows_of, ArePlaced, key_is, put_placed, keeps_placed, starts_next, values_shown}
 use Rattle.td_query.proofs.arranging.by_start.Goals as goal

@@ -1,5 +1,5 @@
 use Rattle.std.proofs.Common.{◌≡◌, take, []}
-use Rattle.td_query.specs.Arranged.{put_by_starts}
+use Rattle.td_verdict.specs.Arranged.{put_by_starts}
 use Rattle.td_query.specs.Shown.{all_shown}
 use Rattle.td_query.proofs.Starts.{rows_of, ArePlaced}
 use Rattle.td_query.proofs.arranging.by_start.Given as goal

@@ -1,5 +1,5 @@
 use Rattle.std.proofs.Common.{◌≡◌, take}
-use Rattle.td_query.specs.Arranged.{cells_shown}
+use Rattle.td_verdict.specs.Arranged.{cells_shown}
 use Rattle.td_query.specs.Shown.{all_shown}
 use Rattle.td_query.proofs.arranging.cells_of.Given as goal
 

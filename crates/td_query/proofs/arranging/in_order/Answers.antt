@@ -1,5 +1,5 @@
 use Rattle.std.proofs.Common.{reverse, sym, ap, ◌∙◌}
-use Rattle.td_query.specs.Arranged.{arranged, by_start}
+use Rattle.td_verdict.specs.Arranged.{arranged, by_start}
 use Rattle.td_query.specs.Shown.{all_shown}
 use Rattle.td_query.proofs.Starts.{reverse-map}
 use Rattle.td_query.specs.declared.arranging.Shown.{Shown}

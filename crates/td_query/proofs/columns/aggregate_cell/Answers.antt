@@ -5,7 +5,7 @@ use Rattle.td_aggr.specs.Tallies.{IsSound, shown}
 use Rattle.td_aggr.specs.declared.tally.Tally.{Tally}
 use Rattle.td_layer.specs.declared.values.Cell.{Cell}
 use Rattle.td_query.specs.Cuts.{kept_rows, values}
-use Rattle.td_query.specs.Windowed.{column_aggregate, truth_cell}
+use Rattle.td_verdict.specs.Windowed.{column_aggregate, truth_cell}
 use Rattle.td_query.proofs.Tallied.{sound_so_far}
 use Rattle.td_query.proofs.columns.aggregate_cell.Goals as goal
 

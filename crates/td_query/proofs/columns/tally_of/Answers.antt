@@ -3,7 +3,7 @@ use Rattle.std.proofs.lemmas.List.{take_more, length-take}
 use Rattle.td_aggr.specs.Tallies.{IsSound, merged, tally_of, tally_of_row}
 use Rattle.td_aggr.specs.declared.tally.Tally.{Tally}
 use Rattle.td_query.specs.Cuts.{is_kept, kept_rows, values}
-use Rattle.td_query.specs.Windowed.{Keyed, value_at}
+use Rattle.td_verdict.specs.Windowed.{Keyed, value_at}
 use Rattle.td_query.proofs.Tallied.{sound_so_far, rows_so_far, count_so_far, good_take, one_more}
 use Rattle.td_query.proofs.columns.tally_of.Goals as goal
 

@@ -1,5 +1,5 @@
 use Rattle.std.proofs.Common.{◌≡◌, map, take}
-use Rattle.td_query.specs.Answered.{window_row}
+use Rattle.td_verdict.specs.Answered.{window_row}
 use Rattle.td_query.specs.Cuts.{window_of_span}
 use Rattle.td_query.proofs.finishing.span_rows.Given as goal
 

@@ -1,5 +1,5 @@
 use Rattle.std.proofs.Common.{List, sym, subst}
-use Rattle.td_query.specs.Groups.{Grouped}
+use Rattle.td_verdict.specs.Groups.{Grouped}
 use Rattle.td_query.specs.Read.{all_grouped, AreGood}
 use Rattle.td_query.proofs.Goodness.{given_good, first_good}
 use Rattle.td_query.proofs.gathering.gather.Goals as goal

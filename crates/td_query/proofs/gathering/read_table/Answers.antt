@@ -2,7 +2,8 @@ use Rattle.std.proofs.Common.{◌≡◌, Option, Some, None, sym, ap, ◌∙◌,
 use Rattle.std.specs.Prelude.{IfSome}
 use Rattle.td_layer.specs.Scans.{rows_in}
 use Rattle.td_model.specs.State.{Rows}
-use Rattle.td_query.specs.Groups.{picked_in, put_group}
+use Rattle.td_verdict.specs.Groups.{put_group}
+use Rattle.td_query.specs.Planned.{picked_in}
 use Rattle.td_query.specs.Read.{all_grouped, listed, wanted_from, AreGood}
 use Rattle.td_query.proofs.Wanted.{wanted_is_picked, wanted_good, group_good}
 use Rattle.td_query.proofs.gathering.read_table.Goals as goal

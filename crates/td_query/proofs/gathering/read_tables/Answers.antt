@@ -2,7 +2,8 @@ use Rattle.std.proofs.Common.{◌≡◌, ◌≤◌, ◌+◌, ℕ, List, Option, 
 use Rattle.std.specs.Prelude.{IfSome}
 use Rattle.std.specs.List.{slice_get}
 use Rattle.td_model.specs.State.{Rows}
-use Rattle.td_query.specs.Groups.{Grouped, tables_of, picked_in, put_group}
+use Rattle.td_verdict.specs.Groups.{Grouped, put_group}
+use Rattle.td_query.specs.Planned.{tables_of, picked_in}
 use Rattle.td_query.specs.Read.{listed, all_grouped, AreGood}
 use Rattle.td_query.proofs.Listing.{no_more}
 use Rattle.td_query.proofs.TableByTable.{Finds, Takes, finds_next, finds_past, finds_end, takes_next, takes_past, takes_stop}

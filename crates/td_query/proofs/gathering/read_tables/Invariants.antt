@@ -1,5 +1,5 @@
 use Rattle.std.proofs.Common.{◌≡◌, ℕ, drop}
-use Rattle.td_query.specs.Groups.{tables_of}
+use Rattle.td_query.specs.Planned.{tables_of}
 use Rattle.td_query.specs.Read.{all_grouped, AreGood}
 use Rattle.td_query.proofs.TableByTable.{Finds, Takes}
 use Rattle.td_query.proofs.gathering.read_tables.Given as goal

@@ -1,5 +1,5 @@
 use Rattle.std.proofs.Common.{◌≡◌, map, filter, All}
-use Rattle.td_query.specs.Groups.{is_shown}
+use Rattle.td_verdict.specs.Groups.{is_shown}
 use Rattle.td_query.specs.Gathered.{without_windows, IsInOrder}
 use Rattle.td_query.specs.Read.{all_grouped}
 use Rattle.td_query.proofs.gathering.shown_groups.Given as goal

@@ -3,7 +3,7 @@ use Rattle.std.proofs.lemmas.List.{length-map}
 use Rattle.std.proofs.lemmas.List.Edits.{length-insert}
 use Rattle.td_layer.specs.declared.values.Cell.{Cell}
 use Rattle.td_query.specs.declared.groups.Gathered.{Gathered}
-use Rattle.td_query.specs.Groups.{empty_group}
+use Rattle.td_verdict.specs.Groups.{empty_group}
 use Rattle.td_query.specs.Read.{grouped, all_grouped, put_at, keyed_rows, PutsIn}
 use Rattle.td_query.proofs.Grouping.{map-insert}
 use Rattle.td_query.proofs.groups.group_for.Goals as goal

@@ -2,7 +2,7 @@ use Rattle.std.proofs.Common.{Some, ap, sym, ◌∙◌, arith}
 use Rattle.std.proofs.lemmas.Option.{slice_get-get_or}
 use Rattle.std.proofs.lemmas.List.{length-map}
 use Rattle.td_query.specs.declared.groups.Gathered.{Gathered}
-use Rattle.td_query.specs.Parts.{part_cmp}
+use Rattle.td_verdict.specs.Parts.{part_cmp}
 use Rattle.td_query.specs.Read.{grouped, all_grouped}
 use Rattle.td_query.proofs.Grouping.{stands, goes_before, goes_last, one_more, gathered_at}
 use Rattle.td_query.proofs.groups.place_for.Goals as goal

@@ -5,7 +5,7 @@ use Rattle.td_layer.specs.declared.values.Cell.{Cell}
 use Rattle.td_model.specs.State.{Rows}
 use Rattle.std.specs.List.{slice_get}
 use Rattle.td_query.specs.declared.groups.Gathered.{Gathered}
-use Rattle.td_query.specs.Groups.{Grouped}
+use Rattle.td_verdict.specs.Groups.{Grouped}
 use Rattle.td_query.specs.Read.{grouped, all_grouped, listed, wanted_from}
 use Rattle.td_query.proofs.Grouping.{set_at}
 use Rattle.td_query.proofs.groups.put_found.Goals as goal

@@ -1,6 +1,6 @@
 use Rattle.std.proofs.Common.{◌≡◌, length}
 use Rattle.std.specs.Cmp.Lexicographic.{slice_cmp}
-use Rattle.td_query.specs.Parts.{cell_cmp}
+use Rattle.td_verdict.specs.Parts.{cell_cmp}
 use Rattle.td_query.proofs.parts.part_order.Given as goal
 
 abbrev pub invariant-loop-left : goal.invariant-loop-left

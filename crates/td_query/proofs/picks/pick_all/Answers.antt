@@ -3,8 +3,8 @@ use Rattle.std.specs.Prelude.{IfSome}
 use Rattle.std.specs.List.{slice_get}
 use Rattle.td_model.specs.State.{Rows}
 use Rattle.td_verdict.specs.Answers.{Found, put_in_time}
-use Rattle.td_query.specs.Answered.{found_in}
-use Rattle.td_query.specs.Groups.{tables_of}
+use Rattle.td_query.specs.Planned.{found_in}
+use Rattle.td_query.specs.Planned.{tables_of}
 use Rattle.td_query.specs.Picks.{found_rows}
 use Rattle.td_query.specs.Read.{listed}
 use Rattle.td_query.proofs.Listing.{no_more}

@@ -1,5 +1,5 @@
 use Rattle.std.proofs.Common.{◌≡◌, ℕ, drop}
-use Rattle.td_query.specs.Groups.{tables_of}
+use Rattle.td_query.specs.Planned.{tables_of}
 use Rattle.td_query.specs.Picks.{found_rows}
 use Rattle.td_query.proofs.Picking.{Picks}
 use Rattle.td_query.proofs.TableByTable.{Takes}

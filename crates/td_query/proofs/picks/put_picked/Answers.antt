@@ -1,6 +1,6 @@
 use Rattle.std.proofs.Common.{cond, [], ◌∷◌, sym, ap, ◌∙◌}
 use Rattle.td_verdict.specs.Answers.{put_in_time}
-use Rattle.td_query.specs.Groups.{keyed}
+use Rattle.td_query.specs.Planned.{keyed}
 use Rattle.td_query.specs.Picks.{found_rows, with_cells}
 use Rattle.td_query.specs.Read.{listed}
 use Rattle.td_query.proofs.Picking.{picked_insert}

@@ -1,5 +1,5 @@
 use Rattle.std.proofs.Common.{sym, ap, ◌∙◌}
-use Rattle.td_query.specs.Groups.{put_rows}
+use Rattle.td_verdict.specs.Groups.{put_rows}
 use Rattle.td_query.specs.Read.{keyed_rows, listed, wanted_from}
 use Rattle.td_query.proofs.Keyed.{put_last}
 use Rattle.td_query.proofs.rows.put_table.Goals as goal

@@ -1,5 +1,5 @@
 use Rattle.std.proofs.Common.{◌≡◌, length}
-use Rattle.td_query.specs.Groups.{put_rows}
+use Rattle.td_verdict.specs.Groups.{put_rows}
 use Rattle.td_query.specs.Read.{keyed_rows, listed, wanted_from}
 use Rattle.td_query.proofs.rows.put_table.Given as goal
 

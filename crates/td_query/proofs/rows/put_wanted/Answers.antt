@@ -1,5 +1,6 @@
 use Rattle.std.proofs.Common.{cond, [], ◌∷◌, sym, ap, ◌∙◌}
-use Rattle.td_query.specs.Groups.{keyed, put_rows}
+use Rattle.td_verdict.specs.Groups.{put_rows}
+use Rattle.td_query.specs.Planned.{keyed}
 use Rattle.td_query.specs.Read.{keyed_rows}
 use Rattle.td_query.proofs.Keyed.{keyed_insert}
 use Rattle.td_query.proofs.rows.put_wanted.Goals as goal

@@ -3,7 +3,7 @@ use Rattle.std.proofs.lemmas.List.{length-map}
 use Rattle.td_limits.specs.declared.limits.TheConstants.{LAST_TIMESTAMP}
 use Rattle.td_window.specs.Spans.{places, time_at, time_of, window_of, window_over, IsInside}
 use Rattle.td_window.specs.Windows.{AreIntervalWindows}
-use Rattle.td_query.specs.Windowed.{interval_windows}
+use Rattle.td_verdict.specs.Windowed.{interval_windows}
 use Rattle.td_query.proofs.Cutting.{in_range}
 use Rattle.td_query.proofs.Intervals.{are_interval_windows}
 use Rattle.td_query.proofs.spans.intervals_of.Goals as goal

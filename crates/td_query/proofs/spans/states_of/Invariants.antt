@@ -1,5 +1,5 @@
 use Rattle.std.proofs.Common.{◌≡◌, map, take}
-use Rattle.td_query.specs.Windowed.{value_at}
+use Rattle.td_verdict.specs.Windowed.{value_at}
 use Rattle.td_query.proofs.spans.states_of.Given as goal
 
 abbrev pub invariant-rows : goal.invariant-rows

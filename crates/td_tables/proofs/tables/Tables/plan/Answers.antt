@@ -1,7 +1,12 @@
-use Rattle.std.proofs.Common.{◌≡◌, ap, subst}
+use Rattle.std.proofs.Common.{◌≡◌, ◌∙◌, ap, subst}
 use Rattle.std.specs.Prelude.{IfOk}
 use Rattle.td_verdict.specs.Plans.{plan_of}
+use Rattle.td_verdict.specs.Queries.{query_verdict}
 use Rattle.td_tables.proofs.tables.Tables.plan.Goals as goal
+
+pub returns-clause-verdict : goal.returns-clause-verdict
+returns-clause-verdict c =
+    c.in_ok-answer.ensures.verdict ∙ ap (λ h. query_verdict c.args.query.now h.state.catalog) c.self.view_is
 
 pub returns-clause-plan : goal.returns-clause-plan
 returns-clause-plan c =

@@ -23,7 +23,7 @@ use Rattle.td_verdict.specs.Values.{is_truth}
 use Rattle.td_verdict.specs.Writes.{place_of}
 use Rattle.td_window.specs.Spans.{time_of}
 use Rattle.td_window.specs.Windows.{Window, interval_window, session_windows, state_windows}
-use Rattle.td_query.specs.Parts.{part_cell}
+use Rattle.td_verdict.specs.Parts.{part_cell}
 
 -- a row with its key, and a window of such rows
 abbrev pub Keyed : Type 0

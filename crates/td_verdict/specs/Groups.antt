@@ -1,22 +1,23 @@
--- The rows that a plan picks, partitioned by the cells of the PARTITION BY items.
+-- The picked rows of a source, partitioned by the cells of the PARTITION BY items.
 use Rattle.std.specs.Prelude.{ℕ, Bool, not, ◌&&◌, ◌||◌, ◌==◌, if◌then◌else◌, List, [], ◌∷◌, map, filter, length}
 use Rattle.std.specs.Ordering.{match_ordering}
 use Rattle.std.specs.BTreeMap.{insert_entry}
 use Rattle.td_layer.specs.declared.values.Cell.{Cell}
 use Rattle.td_layer.specs.declared.values.Key.{Key}
 use Rattle.td_layer.specs.declared.values.Row.{Row}
-use Rattle.td_layer.specs.Scans.{rows_in}
 use Rattle.td_model.specs.Built.{is_whole}
 use Rattle.td_model.specs.declared.catalog.Column.{Column}
+use Rattle.td_model.specs.declared.catalog.Schema.{Schema}
 use Rattle.td_model.specs.declared.language.Query.{Query}
-use Rattle.td_model.specs.declared.plan.Plan.{Plan}
-use Rattle.td_model.specs.State.{Rows}
+use Rattle.td_model.specs.State.{State, Rows}
 use Rattle.td_verdict.specs.declared.comparison.Comparison.{Comparison}
-use Rattle.td_verdict.specs.Answers.{time_cmp}
-use Rattle.td_verdict.specs.Fields.{row_cells, all_hold}
-use Rattle.td_query.specs.Parts.{part_cmp}
+use Rattle.td_verdict.specs.Answers.{time_cmp, rows_of}
+use Rattle.td_verdict.specs.Fields.{row_cells, comparisons_of, all_hold}
+use Rattle.td_verdict.specs.Parts.{part_cmp, part_of}
+use Rattle.td_verdict.specs.Plans.{Numbered, source_tables}
+use Rattle.td_verdict.specs.Queries.{source_schema}
 
--- ---- the tables that are read
+-- ---- tables
 
 -- a table: its number, the cells that the PARTITION BY items give for it, its name and its tags
 pub record Listed : Type 0 where
@@ -25,22 +26,15 @@ pub record Listed : Type 0 where
   pub name : List ℕ
   pub tags : List Cell
 
-abbrev pub tables_from : List ℕ → List (List Cell) → List (List ℕ) → List (List Cell) → List Listed
-tables_from [] parts names tags = []
-tables_from (n ∷ ns) [] names tags = []
-tables_from (n ∷ ns) (part ∷ parts) [] tags = []
-tables_from (n ∷ ns) (part ∷ parts) (name ∷ names) [] = []
-tables_from (n ∷ ns) (part ∷ parts) (name ∷ names) (cells ∷ tags) =
-    record { number = n; part = part; name = name; tags = cells } ∷ tables_from ns parts names tags
-
-abbrev pub tables_of : Plan → List Listed
-tables_of p = tables_from p.tables p.parts p.names p.tags
+abbrev pub listed_table : Schema → Query → Numbered → Listed
+listed_table s q t = record {
+  number = t.0;
+  part = part_of s q.parts t.1.name t.1.tags;
+  name = t.1.name;
+  tags = t.1.tags;
+}
 
 -- ---- the rows that are picked
-
--- a table's row with its key
-abbrev pub keyed : ℕ → ℕ × Row → Key × Row
-keyed table e = (record { table = table; ts = e.0 }, e.1)
 
 -- a row's cells, as conditions and row queries see them
 abbrev pub cells_of : List Column → Listed → Key × Row → List Cell
@@ -50,13 +44,9 @@ cells_of columns t e = row_cells columns t.name t.tags e.0.ts e.1.values
 abbrev pub is_picked : List Column → List Comparison → Listed → Key × Row → Bool
 is_picked columns ps t e = all_hold ps (cells_of columns t e)
 
--- of rows of a table those of which all conditions are true
-abbrev pub picked_from : List Column → List Comparison → Listed → List (ℕ × Row) → Rows
-picked_from columns ps t found = filter (is_picked columns ps t) (map (keyed t.number) found)
-
--- the rows of a table in a range of timestamps of which all conditions are true
-abbrev pub picked_in : Plan → List Comparison → Rows → Listed → Rows
-picked_in p ps rows t = picked_from p.schema.columns ps t (rows_in t.number p.lo p.hi rows)
+-- the rows of a table of which all conditions are true
+abbrev pub picked_rows : List Column → List Comparison → Rows → Listed → Rows
+picked_rows columns ps rows t = filter (is_picked columns ps t) (rows_of t.number rows)
 
 -- rows put one by one among others, by timestamp, then by table
 abbrev pub put_rows : Rows → Rows → Rows
@@ -103,9 +93,13 @@ has_rows g = not (length g.rows == 0)
 abbrev pub is_shown : Bool → Grouped → Bool
 is_shown one g = one || has_rows g
 
-abbrev pub groups_over : Bool → Plan → List Comparison → Rows → List Grouped
-groups_over one p ps rows = filter (is_shown one) (put_tables (picked_in p ps rows) (first_groups one) (tables_of p))
+abbrev pub groups_from : Bool → (Listed → Rows) → List Listed → List Grouped
+groups_from one picked tables = filter (is_shown one) (put_tables picked (first_groups one) tables)
 
--- the picked rows by the cells of the PARTITION BY items, in the order of these
-abbrev pub groups_of : Plan → List Comparison → Rows → List Grouped
-groups_of p ps rows = groups_over (has_one_group p.query) p ps rows
+-- the picked rows of a query in a state by the cells of the PARTITION BY items, in the order of these
+abbrev pub groups_in : Query → Schema → List Numbered → Rows → List Grouped
+groups_in q s tables rows =
+    groups_from (has_one_group q) (picked_rows s.columns (comparisons_of s q.conds) rows) (map (listed_table s q) tables)
+
+abbrev pub groups : Query → State → List Grouped
+groups q s = groups_in q (source_schema q.source s.catalog) (source_tables q.source s.catalog) s.rows

@@ -1,5 +1,5 @@
 -- Partitions: the lists of cells that the PARTITION BY items give, and their order.
-use Rattle.std.specs.Prelude.{ℕ, ℤ, pos, Bool, true, false, if◌then◌else◌, List, [], slice_get, position}
+use Rattle.std.specs.Prelude.{ℕ, ℤ, pos, Bool, true, false, if◌then◌else◌, List, [], map, slice_get, position}
 use Rattle.std.specs.Option.{unwrap_or, option_and_then}
 use Rattle.std.specs.Str.{bytes_eq}
 use Rattle.std.specs.Ordering.{nat_cmp, int_cmp, ordering_then}
@@ -7,10 +7,13 @@ use Rattle.std.specs.Cmp.Lexicographic.{slice_cmp}
 use Rattle.std.specs.declared.cmp.Ordering.{Ordering}
 use Rattle.td_layer.specs.declared.values.Cell.{Cell}
 use Rattle.td_layer.specs.declared.values.Cell.TheVariants as cell
+use Rattle.td_model.specs.declared.catalog.Column.{Column}
+use Rattle.td_model.specs.declared.catalog.Schema.{Schema}
 use Rattle.td_model.specs.declared.language.ItemKind.{ItemKind}
 use Rattle.td_model.specs.declared.language.ItemKind.TheVariants as item
 use Rattle.td_model.specs.declared.language.PartBy.{PartBy}
 use Rattle.td_model.specs.declared.language.PartBy.TheVariants as part
+use Rattle.td_verdict.specs.Writes.{place_of}
 
 -- Cells are ordered by their rank: NULL, then truth values and numbers, then texts, then fractions.
 abbrev pub rank : Cell → ℕ
@@ -65,3 +68,17 @@ is_part _ _ = false
 -- the group's cell of an item
 abbrev pub part_cell : List PartBy → List Cell → ItemKind → Cell
 part_cell parts cells i = unwrap_or (option_and_then (slice_get cells) (position (is_part i) parts)) cell.Null
+
+-- ---- the partition of a table
+
+-- the tag of a name
+abbrev pub tag_cell : List Column → List Cell → List ℕ → Cell
+tag_cell tags cells name = unwrap_or (option_and_then (slice_get cells) (place_of tags name)) cell.Null
+
+-- what a PARTITION BY item gives for a table of a name and tags
+abbrev pub cell_of_part : Schema → List ℕ → List Cell → PartBy → Cell
+cell_of_part s name cells part.TbName = cell.Str name
+cell_of_part s name cells (part.Tag tag) = tag_cell s.tags cells tag
+
+abbrev pub part_of : Schema → List PartBy → List ℕ → List Cell → List Cell
+part_of s parts name cells = map (cell_of_part s name cells) parts

@@ -1,6 +1,8 @@
 -- Which queries are refused for their select list and their windows.
 use Rattle.std.specs.Prelude.{ℕ, ◌*◌, Bool, true, false, not, ◌&&◌, ◌||◌, ◌==◌, nat_le, nat_lt, List, length, is_some}
 use Rattle.std.specs.List.{list_any}
+use Rattle.std.specs.Str.{bytes_eq}
+use lib.Chars.{codes}
 use Rattle.std.specs.Option.{option_map_or}
 use Rattle.td_cols.specs.declared.kinds.Kind.{Kind}
 use Rattle.td_layer.specs.declared.values.Func.{Func}
@@ -20,10 +22,9 @@ use Rattle.td_model.specs.declared.language.Query.{Query}
 use Rattle.td_model.specs.declared.language.WindowDef.{WindowDef}
 use Rattle.td_model.specs.declared.language.WindowDef.TheVariants as window
 use Rattle.td_verdict.specs.Names.{column_named, is_first, is_time}
-use Rattle.td_verdict.specs.Queries.{is_window_start, is_order_other, needs_window}
 use Rattle.td_verdict.specs.Streams.{is_plain, is_long}
 use Rattle.td_verdict.specs.Values.{is_text, is_truth}
-use Rattle.td_query.specs.Parts.{is_part}
+use Rattle.td_verdict.specs.Parts.{is_part}
 
 -- ---- the select list
 
@@ -69,6 +70,12 @@ is_column columns (part.Tag name) = is_some (column_named columns name)
 abbrev pub parts_by_column : Schema → Query → Bool
 parts_by_column s q = list_any (is_column s.columns) q.parts
 
+-- an item needs a window
+abbrev pub needs_window : ItemKind → Bool
+needs_window item.WStart = true
+needs_window item.WEnd = true
+needs_window _ = false
+
 -- `_wstart` or `_wend` stands without a window
 abbrev pub lacks_window : Query → Bool
 lacks_window q = not (has_window q) && list_any (λ (i : Item). needs_window i.what) q.items
@@ -96,6 +103,16 @@ is_misused columns _ = false
 
 abbrev pub has_misuse : Schema → Query → Bool
 has_misuse s q = list_any (λ (i : Item). is_misused s.columns i.what) q.items
+
+-- the word of ORDER BY that names a window's start
+abbrev pub is_window_start : List ℕ → Bool
+is_window_start name = bytes_eq name (codes "_wstart")
+
+-- the order is by another thing than the first column
+abbrev pub is_order_other : List Column → OrderBy → Bool
+is_order_other columns order.Plain = false
+is_order_other columns (order.Asc name) = not (is_first columns name)
+is_order_other columns (order.Desc name) = not (is_first columns name)
 
 -- The order is by another thing than the first column of a row query, or the start of a window. An aggregate without a
 -- window has no order.
