@@ -17,11 +17,20 @@ STATEMENT = re.compile(r"([1-9][0-9]?):[ \t]*(.*)")
 CELL = re.compile(r"(NULL)|(true|false)|(-?[0-9]+)(?:/([0-9]+))?|'((?:[^']|'')*)'")
 
 
+class Average(Fraction):
+    """An average: its quotient, which keeps the sum and the count as the report has them."""
+
+    def __new__(cls, total, count):
+        made = super().__new__(cls, total, count)
+        made.text = f"{total}/{count}"
+        return made
+
+
 @dataclass
 class Reply:
     """A reply: to which statement, in which line of the report, what it says; and, of an answer, its header and rows.
 
-    A cell is None, a bool, an int, a Fraction (an average) or a text."""
+    A cell is None, a bool, an int, an Average or a text."""
     session: int
     ordinal: int
     line: int
@@ -68,7 +77,7 @@ def cells_of(text):
         elif truth:
             cells.append(truth == "true")
         elif number:
-            cells.append(int(number) if count is None else Fraction(int(number), int(count)))
+            cells.append(int(number) if count is None else Average(int(number), int(count)))
         else:
             cells.append(quoted.replace("''", "'"))
         at = found.end()
