@@ -4,6 +4,7 @@ ghost use Rattle.std.specs.Prelude.{◌≡◌, ◌<◌};
 use crate::asks::pair_of;
 use crate::plans::{has_bounds, plan_of, words_of};
 use crate::player::{Player, put_row};
+use crate::random::push_random;
 use crate::stored::Stored;
 use std::alloc::Global;
 use std::sync::ledger::{Blank, Ledger};
@@ -63,6 +64,7 @@ fn play<L: Ledger>(
             Ok(())
         }
         "ask" => push_asked(out, alloc, player, stored, text, steps),
+        "random" => push_random(out, alloc, text, steps),
         _ => {
             push_line(out, line);
             Ok(())
@@ -79,7 +81,8 @@ fn push_line(out: &mut Out, line: &str) {
     }
 }
 
-fn push_asked<L: Ledger>(
+/// Asks a query over the rows, and adds what it answers.
+pub(crate) fn push_asked<L: Ledger>(
     out: &mut Out,
     alloc: Global,
     player: &Player,
@@ -129,7 +132,8 @@ fn push_row(out: &mut Out, cells: &[Cell]) {
     out.push(b"\n");
 }
 
-fn push_cell(out: &mut Out, cell: &Cell) {
+/// Adds a cell as it is shown.
+pub(crate) fn push_cell(out: &mut Out, cell: &Cell) {
     match cell {
         Cell::Null => out.push(b"NULL"),
         Cell::Truth(true) => out.push(b"true"),

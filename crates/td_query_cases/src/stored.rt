@@ -47,6 +47,21 @@ impl Stored {
         }
     }
 
+    /// The rows, in the order in which they came.
+    pub(crate) fn rows(&self) -> &[(Key, Row)] {
+        self.rows.as_slice()
+    }
+
+    /// Whether there is a row of a key.
+    pub(crate) fn has(&self, key: Key) -> bool {
+        for entry in self.rows.as_slice() {
+            if entry.0 == key {
+                return true;
+            }
+        }
+        false
+    }
+
     /// Adds a row.
     pub(crate) fn put(&mut self, key: Key, values: &[Said]) -> Result<(), NoMem> {
         let values = values_of(self.alloc, values)?;
