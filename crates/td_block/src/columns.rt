@@ -3,7 +3,7 @@ ghost use Rattle.std.specs.Prelude.{◌≡◌, ◌<◌, ◌^◌, ◌++◌, lengt
 ghost use Rattle.std.specs.List.{AllByRecursion, flat_map};
 ghost use Rattle.td_cols.specs.Kinds.{kind_width};
 ghost use Rattle.td_cols.specs.Spelling.{spelling};
-ghost use Rattle.td_codec.specs.Fields.{Gives};
+ghost use Rattle.td_codec.specs.Fields.{Gives, kind_number};
 ghost use Rattle.td_block.specs.Bits.{bitmap};
 ghost use Rattle.td_block.specs.Columns.{is_fixed, code, named_byte, valued_byte, named, valued, bit_of, lane, cell_from, cell_of_bits, cells, column};
 ghost use Rattle.td_block.specs.Rows.{IsCellOf};
@@ -107,6 +107,27 @@ fn cell_from(name: bool, has_value: bool, number: i128) -> Option<Value>
     }
 }
 
+/// A number of the kind. Each kind has a call of its own, so that its width and its range are known where its bytes
+/// are loaded.
+fn lane_of(kind: Kind, bytes: &[u8]) -> Result<(i128, &[u8]), ReadFault>
+    requires { 0 < kind_width kind }
+    ensures { Gives (λ x. (x.0, x.1.now)) result ((kind_number kind).read bytes.now) }
+{
+    match kind {
+        Kind::Bool => number_of(Kind::Bool, bytes),
+        Kind::I8 => number_of(Kind::I8, bytes),
+        Kind::I16 => number_of(Kind::I16, bytes),
+        Kind::I32 => number_of(Kind::I32, bytes),
+        Kind::I64 => number_of(Kind::I64, bytes),
+        Kind::U8 => number_of(Kind::U8, bytes),
+        Kind::U16 => number_of(Kind::U16, bytes),
+        Kind::U32 => number_of(Kind::U32, bytes),
+        Kind::U64 => number_of(Kind::U64, bytes),
+        Kind::Time => number_of(Kind::Time, bytes),
+        Kind::Wide | Kind::Text(_) => number_of(kind, bytes),
+    }
+}
+
 /// The cell of a row whose bits these are: a number of the kind, which is 0 where there is no value.
 fn cell_of(
     kind: Kind,
@@ -117,7 +138,7 @@ fn cell_of(
     requires { 0 < kind_width kind }
     ensures { Gives (λ x. (x.0, x.1.now)) result ((cell_of_bits kind name has_value).read bytes.now) }
 {
-    let (number, rest) = number_of(kind, bytes)?;
+    let (number, rest) = lane_of(kind, bytes)?;
     if has_value || number == 0 {
         return Ok((cell_from(name, has_value, number), rest));
     }

@@ -1,7 +1,7 @@
 -- The blocks of a file that was written, one by one.
-use Rattle.std.proofs.Common.{◌≡◌, ℕ, zero, suc, ◌+◌, ◌-◌, ◌*◌, ◌^◌, ◌<◌, ◌≤◌, min, Bool, true, false, cond, ltb, leb, eqb, not, List, [], ◌∷◌, ◌++◌, length, map, get_or, take, drop, Option, Some, None, Result, Ok, Err, inl, inr, refl, sym, ap, subst, ◌∙◌, append_assoc, arith}
-use Rattle.std.specs.Prelude.{◌&&◌, IsTrue, replicate, sum_by, slice_index_or}
-use Rattle.std.specs.List.{flat_map, AllByRecursion, AllZip, range_with_len}
+use Rattle.std.proofs.Common.{◌≡◌, ℕ, zero, suc, ◌+◌, ◌-◌, ◌*◌, ◌^◌, ◌<◌, ◌≤◌, Bool, true, false, cond, ltb, leb, eqb, not, List, [], ◌∷◌, ◌++◌, length, map, get_or, take, drop, Option, Some, None, Result, Ok, Err, inl, inr, refl, sym, ap, subst, ◌∙◌, append_assoc, arith}
+use Rattle.std.specs.Prelude.{◌&&◌, IsTrue, replicate}
+use Rattle.std.specs.List.{flat_map, AllByRecursion}
 use Rattle.std.specs.Ordering.{nat_cmp}
 use Rattle.std.specs.Int.{w8, w64, to_le_bytes}
 use Rattle.std.proofs.lemmas.Bool.{and_parts, and_from, lt-ltb, eq-eqb, eqb-true, cases_lt}
@@ -16,7 +16,6 @@ use Rattle.td_layer.specs.declared.values.Key.{Key}
 use Rattle.td_layer.specs.declared.parts.Partial.{Partial}
 use Rattle.td_layer.specs.Keys.{AllAfter, RisesBy}
 use Rattle.td_codec.specs.Fields.{◌>>=◌}
-use Rattle.td_codec.proofs.FieldLaws.{wide64}
 use Rattle.td_cols.specs.Spelling.{spelling}
 use Rattle.td_block.specs.declared.block.Block.{Block}
 use Rattle.td_block.specs.declared.header.Head.{Head}
@@ -39,7 +38,7 @@ use Rattle.td_datafile.specs.Sums.{summaries}
 use Rattle.td_datafile.specs.Index.{bytes_of_block, entry_of, index_of}
 use Rattle.td_datafile.specs.Written.{IsWhole}
 use Rattle.td_datafile.specs.Blocks.{is_behind, key_of, rows_checked, full_bitmap, first_other, or_else, first_unnamed, unless_before, whole_decoded, moved, own_length, entry_length, agreeing, own_block}
-use Rattle.td_datafile.specs.Scanned.{Want, is_wanted, wanted_of, keyed, Walked, is_needed, nothing_left, wanted_block, then_walk, last_key, walk}
+use Rattle.td_datafile.specs.Scanned.{Want, is_wanted, wanted_of, keyed, Walked, wanted_block, then_walk, last_key, walk}
 use Rattle.td_datafile.specs.Contents.{wanted_in}
 use Rattle.td_datafile.proofs.EntryLaws.{count_is}
 use Rattle.td_datafile.proofs.Walks.{walk_ends, walk_next}

@@ -1,8 +1,7 @@
 -- The summaries of columns are such as an index may have.
-use Rattle.std.proofs.Common.{◌≡◌, ℕ, zero, suc, ◌+◌, ◌-◌, ◌*◌, ◌^◌, ◌<◌, ◌≤◌, Bool, true, ltb, leb, eqb, cond, ℤ, pos, neg_ℤ, List, [], ◌∷◌, ◌++◌, length, map, Option, Some, None, refl, sym, ap, subst, ◌∙◌, arith}
-use Rattle.std.specs.Prelude.{◌&&◌, ◌≤ℤ◌, ◌<ℤ◌, ◌+ℤ◌, int_le, slice_index_or, IfSome}
+use Rattle.std.proofs.Common.{◌≡◌, ℕ, suc, ◌+◌, ◌-◌, ◌*◌, ◌^◌, ◌≤◌, true, ltb, leb, eqb, cond, ℤ, pos, neg_ℤ, List, [], ◌∷◌, length, Option, Some, None, refl, arith}
+use Rattle.std.specs.Prelude.{◌&&◌, ◌≤ℤ◌, ◌+ℤ◌, int_le, slice_index_or, IfSome}
 use Rattle.std.specs.List.{AllByRecursion}
-use Rattle.std.specs.Int.{int_min, int_max}
 use Rattle.std.specs.Ordering.{int_eq}
 use Rattle.std.proofs.lemmas.Bool.{and_from, lt-ltb, le-leb}
 use Rattle.std.proofs.lemmas.Bool.Decides.{nat_tests}
@@ -16,7 +15,6 @@ use Rattle.td_layer.specs.declared.parts.Partial.{Partial}
 use Rattle.td_layer.specs.Columns.{IsColumnNumber, IsColumnValue, AreColumnCells}
 use Rattle.td_aggr.specs.Aggregates.{sum_of, least, greatest}
 use Rattle.td_block.specs.Rows.{Rows, column_at}
-use Rattle.td_datafile.specs.declared.format.Summary.{Summary}
 use Rattle.td_datafile.specs.Sums.{numbers_of, summary_of}
 use Rattle.td_datafile.specs.Entries.{is_sum, is_bound, summary_in}
 use Rattle.td_datafile.proofs.EntryLaws.{in_wide}

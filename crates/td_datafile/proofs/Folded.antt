@@ -1,7 +1,7 @@
 -- A fold of a file that was written gives the tally of its rows.
-use Rattle.std.proofs.Common.{◌≡◌, ℕ, zero, suc, ◌+◌, ◌-◌, ◌*◌, ◌^◌, ◌<◌, ◌≤◌, ℤ, pos, Bool, true, false, cond, eqb, leb, ltb, not, List, [], ◌∷◌, ◌++◌, length, map, get_or, drop, Option, Some, None, Result, Ok, Err, ◌⊎◌, inl, inr, refl, sym, ap, subst, ◌∙◌, append_assoc, arith}
+use Rattle.std.proofs.Common.{◌≡◌, ℕ, zero, suc, ◌+◌, ◌-◌, ◌^◌, ◌<◌, ◌≤◌, ℤ, Bool, true, false, cond, eqb, leb, List, [], ◌∷◌, ◌++◌, length, drop, Option, Some, None, Result, Ok, Err, ◌⊎◌, inl, inr, refl, sym, ap, subst, ◌∙◌, append_assoc, arith}
 use Rattle.std.specs.Prelude.{◌&&◌, ◌+ℤ◌, IfSome, slice_get, slice_index_or}
-use Rattle.std.specs.List.{AllByRecursion, filter, flat_map}
+use Rattle.std.specs.List.{AllByRecursion, flat_map}
 use Rattle.std.specs.Int.{int_min, int_max}
 use Rattle.std.proofs.lemmas.Bool.{and_parts, eqb-true, eq-eqb, cases_lt}
 use Rattle.std.proofs.lemmas.Bool.Decides.{nat_tests}
@@ -18,21 +18,21 @@ use Rattle.td_aggr.specs.declared.tally.Tally.{Tally}
 use Rattle.td_aggr.specs.Aggregates.{is_before}
 use Rattle.td_aggr.specs.Tallies.{Mark, key_of as mark_key, lesser, greater, earlier, later, empty_tally, tally_of_row, tally_of, merged}
 use Rattle.td_aggr.specs.Laws.{same_tally, of_joined_rows}
-use Rattle.td_block.specs.Rows.{Rows, times_of, column_at, columns_of}
+use Rattle.td_block.specs.Rows.{Rows, column_at, columns_of}
 use Rattle.td_fileio.specs.Days.{is_in_day}
 use Rattle.td_codec.proofs.FieldLaws.{ok_is}
 use Rattle.td_fileio.specs.declared.lists.TableRows.{TableRows}
 use Rattle.td_fileio.specs.Lists.{FileBlock, all_blocks}
 use Rattle.td_datafile.specs.declared.format.Summary.{Summary}
 use Rattle.td_datafile.specs.declared.format.Entry.{Entry}
-use Rattle.td_datafile.specs.Sums.{number_of, numbers_of, summary_of, no_numbers, with_number, with_cell, summaries}
+use Rattle.td_datafile.specs.Sums.{numbers_of, summary_of, no_numbers, with_cell, summaries}
 use Rattle.td_datafile.specs.declared.opening.Opening.{Opening}
 use Rattle.td_datafile.specs.declared.blocks.Spot.{Spot}
 use Rattle.td_datafile.specs.declared.folding.BlockPart.{BlockPart}
 use Rattle.td_datafile.specs.declared.folding.Gathering.{Gathering}
 use Rattle.td_datafile.specs.Index.{bytes_of_block, entry_of, index_of, entry_bytes}
 use Rattle.td_datafile.specs.Written.{blocks_begin, bytes_of_list, CanWrite}
-use Rattle.td_datafile.specs.Blocks.{is_behind, key_of, entry_length, own_block}
+use Rattle.td_datafile.specs.Blocks.{is_behind, key_of, own_block}
 use Rattle.td_datafile.specs.Scanned.{Want, is_wanted, wanted_of, keyed, is_needed, last_key, wanted_block, before_all}
 use Rattle.td_datafile.specs.Contents.{partials_of, IsWantedTable}
 use Rattle.td_datafile.specs.Folding.{value_of, column_of, tally_of_rows, is_covered, bound_of, tally_of_summary, summed_part, read_part, part_of, nothing_gathered, counted, one_gathered, either, both, gathered_of, spot_behind, gathered, block_marks, marks_of, with_marks, folded_behind, folded}

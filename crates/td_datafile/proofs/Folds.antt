@@ -1,5 +1,5 @@
 -- What blocks add together, and how many rows have the blocks of which not all rows are wanted.
-use Rattle.std.proofs.Common.{◌≡◌, ℕ, zero, suc, ◌+◌, ◌-◌, ◌*◌, ◌^◌, ◌<◌, ◌≤◌, ℤ, pos, neg_ℤ, Bool, true, false, cond, eqb, leb, ltb, not, List, [], ◌∷◌, ◌++◌, length, map, drop, Option, Some, None, Result, Ok, Err, ◌⊎◌, inl, inr, refl, sym, ap, subst, ◌∙◌, arith}
+use Rattle.std.proofs.Common.{◌≡◌, ℕ, zero, suc, ◌+◌, ◌-◌, ◌^◌, ◌<◌, ◌≤◌, ℤ, Bool, true, false, cond, eqb, leb, ltb, not, List, [], ◌∷◌, ◌++◌, length, drop, Option, Some, None, Result, Ok, Err, ◌⊎◌, inl, inr, refl, sym, ap, subst, ◌∙◌, arith}
 use Rattle.std.specs.Prelude.{◌&&◌, ◌||◌, IfSome, sum_by, slice_get, slice_index_or}
 use Rattle.std.specs.List.{AllByRecursion, filter}
 use Rattle.std.proofs.lemmas.Bool.{and_parts, eqb-true}
@@ -13,7 +13,7 @@ use Rattle.td_layer.specs.declared.values.Key.{Key}
 use Rattle.td_layer.specs.declared.values.Value.{Value}
 use Rattle.td_layer.specs.declared.values.Value.TheVariants as value
 use Rattle.td_layer.specs.declared.parts.Partial.{Partial}
-use Rattle.td_layer.specs.Columns.{IsColumnNumber, IsColumnValue, AreColumnCells}
+use Rattle.td_layer.specs.Columns.{IsColumnNumber, IsColumnValue}
 use Rattle.td_layer.specs.declared.scans.ScanFault.{ScanFault}
 use Rattle.td_layer.specs.declared.scans.ScanFault.TheVariants as scans
 use Rattle.td_codec.specs.Fields.{◌>>=◌}
@@ -29,9 +29,9 @@ use Rattle.td_datafile.specs.declared.format.Summary.{Summary}
 use Rattle.td_datafile.specs.declared.format.Entry.{Entry}
 use Rattle.td_datafile.specs.declared.entries.Behind.{Behind}
 use Rattle.td_datafile.specs.declared.blocks.Spot.{Spot}
-use Rattle.td_datafile.specs.Entries.{is_sum, is_bound, comes_later, can_end, behind, behind_entry}
-use Rattle.td_datafile.specs.Blocks.{key_of, entry_length}
-use Rattle.td_datafile.specs.Scanned.{Want, is_wanted, wanted_of, keyed, is_needed, last_key}
+use Rattle.td_datafile.specs.Entries.{is_bound, can_end, behind, behind_entry}
+use Rattle.td_datafile.specs.Blocks.{key_of}
+use Rattle.td_datafile.specs.Scanned.{Want, is_wanted, wanted_of, keyed, is_needed}
 use Rattle.td_datafile.specs.Known.{IsSummaryOf, Follows, AllFollow, AreEntries}
 use Rattle.td_datafile.specs.declared.folding.BlockPart.{BlockPart}
 use Rattle.td_datafile.specs.declared.folding.Gathering.{Gathering}

@@ -1,5 +1,5 @@
 -- Places of faults in parts of a file, and how long a block is at least.
-use Rattle.std.proofs.Common.{◌≡◌, ℕ, ◌+◌, ◌-◌, ◌*◌, ◌≤◌, List, length, take, drop, Option, None, Result, Ok, Err, refl, sym, ap, ◌∙◌, arith}
+use Rattle.std.proofs.Common.{◌≡◌, ℕ, ◌+◌, ◌-◌, ◌*◌, ◌≤◌, List, length, take, drop, Option, None, Ok, Err, refl, sym, ap, ◌∙◌, arith}
 use Rattle.std.specs.Prelude.{IfSome, sum_by}
 use Rattle.std.proofs.lemmas.List.{take-take}
 use Rattle.td_cols.specs.declared.kinds.Kind.{Kind}

@@ -1,4 +1,3 @@
-pub mod Adding
 pub mod SumLaws
 pub mod EntryLaws
 pub mod IndexLaws

@@ -1,15 +1,13 @@
 -- Blocks whose cells are all named.
-use Rattle.std.proofs.Common.{◌≡◌, ℕ, zero, suc, ◌+◌, ◌-◌, ◌*◌, ◌/◌, ◌<◌, ◌≤◌, min, Bool, true, false, eqb, cond, List, [], ◌∷◌, length, get_or, take, drop, Option, Some, None, Result, Ok, Err, refl, sym, ap, subst, ◌∙◌, arith}
-use Rattle.std.specs.Prelude.{replicate, sum_by}
+use Rattle.std.proofs.Common.{◌≡◌, ℕ, zero, suc, ◌+◌, ◌-◌, ◌*◌, ◌<◌, ◌≤◌, min, Bool, true, false, eqb, cond, List, [], ◌∷◌, length, get_or, take, drop, Option, Some, None, Result, Ok, Err, refl, sym, ap, subst, ◌∙◌, arith}
+use Rattle.std.specs.Prelude.{replicate}
 use Rattle.std.proofs.lemmas.List.{length-drop, drop_more, nil_from_length}
 use Rattle.td_cols.specs.declared.kinds.Kind.{Kind}
 use Rattle.td_block.specs.declared.block.Block.{Block}
-use Rattle.td_block.specs.Bits.{bitmap_length, packed, bitmap}
-use Rattle.td_block.specs.Rows.{CanHold}
-use Rattle.td_block.specs.Blocks.{Held, Begins, block, decoded}
+use Rattle.td_block.specs.Bits.{bitmap_length, packed}
+use Rattle.td_block.specs.Blocks.{decoded}
 use Rattle.td_block.specs.Headers.{column_length}
 use Rattle.td_block.proofs.Bitmaps.{length-bitmap, bitmap-byte}
-use Rattle.td_block.proofs.HeaderLaws.{block_size}
 use Rattle.td_datafile.specs.Blocks.{full_bitmap, first_other, or_else, first_unnamed, unless_before, whole_decoded}
 use Rattle.td_datafile.proofs.Heads.{block_place}
 

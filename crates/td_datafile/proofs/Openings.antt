@@ -1,12 +1,12 @@
 -- The opening of a file that was written.
-use Rattle.std.proofs.Common.{◌≡◌, ℕ, zero, suc, ◌+◌, ◌-◌, ◌*◌, ◌^◌, ◌<◌, ◌≤◌, Bool, true, cond, ltb, leb, eqb, List, [], ◌∷◌, ◌++◌, length, map, get_or, take, drop, Option, Some, None, Result, Ok, Err, refl, sym, ap, subst, ◌∙◌, append_assoc, arith}
-use Rattle.std.specs.Prelude.{◌&&◌, IsTrue, max}
+use Rattle.std.proofs.Common.{◌≡◌, ℕ, zero, suc, ◌+◌, ◌-◌, ◌^◌, ◌<◌, ◌≤◌, Bool, true, cond, ltb, leb, eqb, List, [], ◌∷◌, ◌++◌, length, map, get_or, take, drop, Option, Ok, Err, refl, sym, ap, subst, ◌∙◌, append_assoc, arith}
+use Rattle.std.specs.Prelude.{◌&&◌, IsTrue}
 use Rattle.std.specs.List.{flat_map, AllByRecursion, range_with_len}
 use Rattle.std.specs.Ordering.{nat_cmp}
-use Rattle.std.specs.Int.{w16, w32, w64, to_le_bytes}
+use Rattle.std.specs.Int.{w32, w64, to_le_bytes}
 use Rattle.std.proofs.lemmas.Bool.{and_parts, and_from, lt-ltb, le-leb, eq-eqb}
 use Rattle.std.proofs.lemmas.Bool.Decides.{nat_tests}
-use Rattle.std.proofs.lemmas.List.{append-nil, length-append, length-map, take_at, take_all, drop_at}
+use Rattle.std.proofs.lemmas.List.{append-nil, length-append, take_at, take_all, drop_at}
 use Rattle.std.proofs.lemmas.List.Concat.{flat_map-cons}
 use Rattle.td_limits.specs.declared.limits.TheConstants.{BLOCK_ROWS, LAST_TIMESTAMP}
 use Rattle.td_cols.specs.declared.kinds.Kind.{Kind}
@@ -14,13 +14,13 @@ use Rattle.td_layer.specs.declared.values.Value.{Value}
 use Rattle.td_layer.specs.declared.values.Key.{Key}
 use Rattle.td_layer.specs.declared.parts.Partial.{Partial}
 use Rattle.td_layer.specs.Columns.{AreColumnCells}
-use Rattle.td_layer.specs.Keys.{AllAfter, RisesBy}
+use Rattle.td_layer.specs.Keys.{RisesBy}
 use Rattle.td_codec.specs.Fields.{◌>>=◌, Read, SpellsOnce, number, checked, pair}
 use Rattle.td_codec.specs.Lists.{each, items_read, all_fit}
 use Rattle.td_codec.proofs.FieldLaws.{wide32, wide64, number_spells, checked_spells, pair_spells}
 use Rattle.td_codec.proofs.ListLaws.{items_again}
-use Rattle.td_block.specs.Rows.{Rows, CanHold, IsRowOf, times_of, column_at, columns_of}
-use Rattle.td_block.proofs.HoldLaws.{less_from, at_place}
+use Rattle.td_block.specs.Rows.{Rows, IsRowOf, times_of, column_at}
+use Rattle.td_block.proofs.HoldLaws.{less_from}
 use Rattle.td_block.proofs.ReadLaws.{row_values}
 use Rattle.td_fileio.specs.Days.{is_in_day}
 use Rattle.td_fileio.specs.Lists.{FileBlock}
@@ -30,7 +30,6 @@ use Rattle.td_datafile.specs.declared.format.Summary.{Summary}
 use Rattle.td_datafile.specs.declared.format.Entry.{Entry}
 use Rattle.td_datafile.specs.declared.format.TheConstants.{FILE_MAGIC, FILE_END}
 use Rattle.td_datafile.specs.declared.entries.Behind.{Behind}
-use Rattle.td_datafile.specs.declared.opening.Opening.{Opening}
 use Rattle.td_datafile.specs.Sums.{numbers_of, summary_of, summaries}
 use Rattle.td_datafile.specs.Index.{bytes_of_block, entry_of, index_of, entry_bytes}
 use Rattle.td_datafile.specs.Written.{blocks_begin, file_bytes}

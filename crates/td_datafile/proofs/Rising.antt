@@ -1,5 +1,5 @@
 -- The entries of an index rise.
-use Rattle.std.proofs.Common.{◌≡◌, ℕ, zero, suc, ◌+◌, ◌-◌, ◌^◌, ◌<◌, ◌≤◌, ℤ, Bool, true, eqb, leb, ltb, cond, List, [], ◌∷◌, ◌++◌, length, Result, Ok, Err, refl, sym, ap, subst, ◌∙◌, arith}
+use Rattle.std.proofs.Common.{◌≡◌, ℕ, zero, suc, ◌+◌, ◌-◌, ◌^◌, ◌<◌, ◌≤◌, ℤ, Bool, true, eqb, leb, cond, List, [], ◌∷◌, ◌++◌, length, Result, Ok, Err, refl, sym, ap, subst, ◌∙◌, arith}
 use Rattle.std.specs.Prelude.{◌&&◌, int_le}
 use Rattle.std.specs.List.{AllByRecursion}
 use Rattle.std.specs.Int.{w16, w32, w64}
@@ -8,17 +8,17 @@ use Rattle.std.proofs.lemmas.Bool.Decides.{nat_tests}
 use Rattle.td_limits.specs.declared.limits.TheConstants.{BLOCK_ROWS}
 use Rattle.td_layer.specs.declared.values.Key.{Key}
 use Rattle.td_cols.specs.Spelling.{AreBytes}
-use Rattle.td_codec.specs.Fields.{◌>>=◌, Field, Read, number, number_read, checked, followed, made}
+use Rattle.td_codec.specs.Fields.{◌>>=◌, Field, Read, number, number_read, checked, followed}
 use Rattle.td_codec.specs.Lists.{each, items_read}
 use Rattle.td_codec.proofs.FieldLaws.{bind_ok, passed, ok_is}
 use Rattle.td_fileio.specs.Days.{is_in_day}
-use Rattle.td_fileio.specs.Places.{Placed, placed, field_at}
+use Rattle.td_fileio.specs.Places.{placed, field_at}
 use Rattle.td_datafile.specs.declared.format.Summary.{Summary}
 use Rattle.td_datafile.specs.declared.format.Entry.{Entry}
 use Rattle.td_datafile.specs.declared.entries.Behind.{Behind}
 use Rattle.td_datafile.specs.declared.opening.Opening.{Opening}
 use Rattle.td_datafile.specs.Blocks.{is_behind}
-use Rattle.td_datafile.specs.Entries.{is_sum, is_bound, wide, summary_parts, summary_from, summary_in, comes_later, can_end, summaries_in, EntryParts, entry_parts, entry_from, parts_of_entry, entry_behind, behind, behind_entry, entry_items}
+use Rattle.td_datafile.specs.Entries.{is_sum, is_bound, wide, summary_parts, summary_from, summary_in, comes_later, can_end, summaries_in, EntryParts, entry_parts, entry_from, entry_behind, behind, behind_entry, entry_items}
 use Rattle.td_datafile.specs.Opening.{front, tail, end_place, all_of, index_in, checked_end, opening_of, opening_at}
 use Rattle.td_datafile.specs.Scanned.{before_all, last_key}
 use Rattle.td_datafile.proofs.EntryLaws.{behind_more}

@@ -1,12 +1,12 @@
 -- Each entry of an index has one spelling, behind those before it.
-use Rattle.std.proofs.Common.{◌≡◌, ℕ, ◌+◌, ◌^◌, ◌≤◌, Bool, true, eqb, leb, ltb, ℤ, List, [], ◌∷◌, ◌++◌, length, Option, Some, Ok, refl, sym, ap, subst, ◌∙◌, append_assoc, arith}
+use Rattle.std.proofs.Common.{◌≡◌, ℕ, ◌+◌, ◌^◌, ◌≤◌, true, eqb, leb, ltb, ℤ, List, [], ◌++◌, length, Ok, refl, sym, ap, subst, ◌∙◌, append_assoc, arith}
 use Rattle.std.specs.Prelude.{◌&&◌, int_le}
 use Rattle.std.specs.List.{flat_map}
 use Rattle.std.specs.Int.{w16, w32, w64, to_le_bytes}
 use Rattle.std.proofs.lemmas.Bool.{and_parts, and_from}
 use Rattle.td_limits.specs.declared.limits.TheConstants.{BLOCK_ROWS}
 use Rattle.td_cols.specs.Spelling.{AreBytes}
-use Rattle.td_codec.specs.Fields.{◌>>=◌, Field, Read, Takes, SpellsOnce, number, number_read, checked, followed, made}
+use Rattle.td_codec.specs.Fields.{◌>>=◌, Field, Read, Takes, SpellsOnce, number, number_read, checked, followed}
 use Rattle.td_codec.specs.Lists.{Items, ItemsSpellOnce, each, items_read, all_fit}
 use Rattle.td_codec.proofs.FieldLaws.{bind_ok, bind_is, takes_then, within_bind, shorter, wide16, wide32, wide64, number_spells, checked_spells, followed_spells, made_spells}
 use Rattle.td_codec.proofs.ListLaws.{items_take, items_again, items_within}
@@ -17,7 +17,7 @@ use Rattle.td_datafile.specs.declared.format.Summary.{Summary}
 use Rattle.td_datafile.specs.declared.format.Entry.{Entry}
 use Rattle.td_datafile.specs.declared.entries.Behind.{Behind}
 use Rattle.td_datafile.specs.Index.{entry_bytes}
-use Rattle.td_datafile.specs.Entries.{is_sum, is_bound, wide, summary_parts, summary_from, parts_of_summary, summary_in, summaries_in, comes_later, can_end, EntryParts, entry_parts, entry_from, parts_of_entry, entry_behind, behind, entry_items}
+use Rattle.td_datafile.specs.Entries.{is_sum, is_bound, wide, summary_parts, summary_from, parts_of_summary, summary_in, summaries_in, comes_later, can_end, entry_parts, entry_from, parts_of_entry, entry_behind, behind, entry_items}
 
 -- ---- summaries
 

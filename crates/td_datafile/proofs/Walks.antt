@@ -1,12 +1,11 @@
 -- What reading one block after the other gives.
-use Rattle.std.proofs.Common.{◌≡◌, ℕ, zero, suc, ◌+◌, ◌-◌, ◌*◌, ◌<◌, ◌≤◌, ◌^◌, Bool, true, false, cond, eqb, leb, not, ℤ, List, [], ◌∷◌, ◌++◌, length, take, drop, reverse, Option, Some, None, Result, Ok, Err, refl, sym, ap, subst, ◌∙◌, arith}
-use Rattle.std.specs.Prelude.{◌&&◌, IfSome, slice_index, slice_get}
+use Rattle.std.proofs.Common.{◌≡◌, ℕ, zero, suc, ◌+◌, ◌-◌, ◌*◌, ◌<◌, ◌^◌, Bool, true, false, cond, eqb, leb, not, ℤ, List, [], ◌∷◌, ◌++◌, length, take, drop, reverse, Option, Some, Result, Ok, Err, refl, sym, ap, subst, ◌∙◌, arith}
+use Rattle.std.specs.Prelude.{◌&&◌, slice_index, slice_get}
 use Rattle.std.specs.List.{AllByRecursion, filter, flat_map}
 use Rattle.std.specs.Int.{w16, w32, w64, to_le_bytes}
 use Rattle.std.specs.declared.cmp.Ordering.TheVariants.{Less}
 use Rattle.std.proofs.lemmas.Bool.{and_parts, eqb-true}
-use Rattle.std.proofs.lemmas.Bool.Decides.{nat_tests}
-use Rattle.std.proofs.lemmas.List.{reverse-reverse, reverse-append, length-append, length-drop, nil_from_length}
+use Rattle.std.proofs.lemmas.List.{reverse-reverse, reverse-append, length-append}
 use Rattle.std.proofs.lemmas.List.Concat.{flat_map-cons}
 use Rattle.td_cols.specs.declared.kinds.Kind.{Kind}
 use Rattle.td_cols.specs.declared.kinds.Kind.TheVariants.{Wide}
@@ -18,7 +17,7 @@ use Rattle.td_layer.specs.declared.scans.ScanFault.{ScanFault}
 use Rattle.td_layer.specs.declared.scans.ScanFault.TheVariants as scans
 use Rattle.td_layer.specs.Keys.{key_cmp, InKeyOrder}
 use Rattle.td_codec.specs.Fields.{◌>>=◌}
-use Rattle.td_codec.proofs.FieldLaws.{bind_ok, passed, passed_by, ok_is}
+use Rattle.td_codec.proofs.FieldLaws.{bind_ok, passed_by, ok_is}
 use Rattle.td_codec.proofs.ValueLaws.{some_is}
 use Rattle.td_block.specs.declared.block.Block.{Block}
 use Rattle.td_block.specs.declared.header.Head.{Head}
@@ -34,7 +33,7 @@ use Rattle.td_datafile.specs.declared.opening.Opening.{Opening}
 use Rattle.td_datafile.specs.Index.{wide_bytes, summary_bytes, entry_bytes}
 use Rattle.td_datafile.specs.Entries.{behind, behind_entry}
 use Rattle.td_datafile.specs.Opening.{opening_at}
-use Rattle.td_datafile.specs.Blocks.{is_behind, key_of, rows_checked, moved, own_length, whole_decoded, entry_length, agreeing, checked_rows, own_block}
+use Rattle.td_datafile.specs.Blocks.{rows_checked, moved, own_length, whole_decoded, entry_length, agreeing, checked_rows, own_block}
 use Rattle.td_datafile.specs.Scanned.{Want, Walked, wanted_of, keyed, is_needed, nothing_left, wanted_block, then_walk, last_key, walk, before_all, behind_opening, scanned}
 use Rattle.td_datafile.specs.Scanning.{left_at, left_with, bytes_left, Keeps, IsFault, Faults}
 use Rattle.td_datafile.proofs.Order.{ComeBehind, none_come, come_before, rows_come, rows_table, behind_is_less}

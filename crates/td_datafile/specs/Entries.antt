@@ -1,17 +1,17 @@
 -- The entries of an index as they are read, each behind those before it.
-use Rattle.std.specs.Prelude.{ℕ, ◌+◌, ◌-◌, ◌*◌, ◌^◌, ◌==◌, ◌&&◌, nat_lt, nat_le, Bool, true, if◌then◌else◌, ℤ, pos, neg_ℤ, int_le, List, [], ◌∷◌, ◌++◌, length, slice_get, Option, Some, None, Result, Ok, Err}
+use Rattle.std.specs.Prelude.{ℕ, ◌+◌, ◌-◌, ◌*◌, ◌^◌, ◌==◌, ◌&&◌, nat_lt, nat_le, Bool, true, if◌then◌else◌, ℤ, pos, neg_ℤ, int_le, List, [], ◌++◌, length, slice_get, Option, Some, None}
 use Rattle.std.specs.List.{flat_map}
 use Rattle.std.specs.Ordering.{int_eq}
 use Rattle.std.specs.Int.{w16, w32, w64, to_le_bytes}
 use Rattle.td_limits.specs.declared.limits.TheConstants.{BLOCK_ROWS}
 use Rattle.td_cols.specs.declared.kinds.Kind.TheVariants.{Wide}
-use Rattle.td_codec.specs.Fields.{Field, ◌>>=◌, number, number_read, kind_number, checked, followed, pair, made}
+use Rattle.td_codec.specs.Fields.{Field, ◌>>=◌, number, number_read, kind_number, checked, followed, made}
 use Rattle.td_codec.specs.Lists.{Items, each, items_read, all_fit}
 use Rattle.td_fileio.specs.Days.{is_in_day}
 use Rattle.td_datafile.specs.declared.format.Summary.{Summary}
 use Rattle.td_datafile.specs.declared.format.Entry.{Entry}
 use Rattle.td_datafile.specs.declared.entries.Behind.{Behind}
-use Rattle.td_datafile.specs.Index.{summary_bytes, entry_bytes}
+use Rattle.td_datafile.specs.Index.{entry_bytes}
 use Rattle.td_datafile.specs.Written.{blocks_begin}
 
 -- ---- summaries

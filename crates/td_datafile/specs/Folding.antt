@@ -1,6 +1,6 @@
 -- The tally of a column over the rows of a table in a file, from the sums of its index and from those blocks that must
 -- be read.
-use Rattle.std.specs.Prelude.{◌≡◌, ℕ, ◌+◌, ◌*◌, ◌^◌, ◌<◌, ◌≤◌, ◌==◌, ◌&&◌, not, nat_le, Bool, IfSome, if◌then◌else◌, ℤ, List, [], ◌∷◌, map, filter, sum_by, length, slice_get, slice_index_or, Option, Some, None, Result, Ok, Err}
+use Rattle.std.specs.Prelude.{◌≡◌, ℕ, ◌+◌, ◌^◌, ◌<◌, ◌≤◌, ◌==◌, ◌&&◌, not, nat_le, Bool, IfSome, if◌then◌else◌, ℤ, List, [], ◌∷◌, map, filter, sum_by, length, slice_get, slice_index_or, Option, Some, None, Result, Ok, Err}
 use Rattle.td_limits.specs.declared.limits.TheConstants.{BLOCK_ROWS}
 use Rattle.td_layer.specs.declared.values.Key.{Key}
 use Rattle.td_layer.specs.declared.values.Value.{Value}

@@ -1,7 +1,6 @@
 -- What is known of the entries of an index that was read.
-use Rattle.std.specs.Prelude.{◌≡◌, ℕ, ◌≤◌, ◌^◌, ◌<◌, nat_le, Bool, true, ℤ, List, [], ◌∷◌, length}
+use Rattle.std.specs.Prelude.{◌≡◌, ℕ, ◌≤◌, ◌^◌, ◌<◌, nat_le, true, List, [], ◌∷◌, length}
 use Rattle.std.specs.List.{AllByRecursion}
-use Rattle.std.specs.Prelude.{int_le}
 use Rattle.td_limits.specs.declared.limits.TheConstants.{BLOCK_ROWS}
 use Rattle.td_datafile.specs.declared.format.Summary.{Summary}
 use Rattle.td_datafile.specs.declared.format.Entry.{Entry}

@@ -1,10 +1,10 @@
 -- What a file says of its blocks: its day range and its index.
-use Rattle.std.specs.Prelude.{ℕ, ◌+◌, ◌-◌, ◌==◌, ◌&&◌, nat_le, max, if◌then◌else◌, List, [], length, Result, Ok, Err}
+use Rattle.std.specs.Prelude.{ℕ, ◌-◌, ◌==◌, ◌&&◌, nat_le, max, if◌then◌else◌, List, [], length, Result, Ok, Err}
 use Rattle.std.specs.List.{flat_map}
 use Rattle.std.specs.Int.{w32, w64}
 use Rattle.td_codec.specs.Fields.{Field, Read, ◌>>=◌, number, checked, pair}
 use Rattle.td_codec.specs.Lists.{items_read, all_fit}
-use Rattle.td_fileio.specs.Places.{Placed, field_at}
+use Rattle.td_fileio.specs.Places.{field_at}
 use Rattle.td_datafile.specs.declared.format.Entry.{Entry}
 use Rattle.td_datafile.specs.declared.format.TheConstants.{FILE_MAGIC, FILE_END}
 use Rattle.td_datafile.specs.declared.opening.Opening.{Opening}

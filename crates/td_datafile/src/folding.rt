@@ -27,7 +27,6 @@ use td_aggr::{Aggr, Tally};
 use td_cols::Kind;
 use td_fileio::{Ahead, FileBytes};
 use td_layer::{Key, Partial, ScanFault, Steps, Value};
-use td_outside::Reader;
 
 /// A block that has values in a column, by the spot of its entry, and what it adds.
 #[derive(Clone, Copy)]
@@ -546,9 +545,9 @@ fn folded<F: FileBytes, L: Ledger>(
 ///
 /// `ReadFault` comes only where the reader's count of faults rose; `Damaged` with the place of the first fault that is
 /// met, where the file tells its bytes. The file stays as it is.
-pub fn fold<R: Reader, L: Ledger>(
+pub fn fold<F: FileBytes, L: Ledger>(
     alloc: Global,
-    file: &mut R,
+    file: &mut F,
     table: u32,
     kinds: &[Kind],
     lo: u64,
@@ -557,17 +556,17 @@ pub fn fold<R: Reader, L: Ledger>(
     steps: &mut Steps<L>,
 ) -> Result<Tally, ScanFault>
     requires column { column < length kinds.now }
-    ensures tally { GivesPlaced (λ t. t) (R.bytes file.old) (R.file file.old) result
+    ensures tally { GivesPlaced (λ t. t) (F.bytes file.old) (F.file file.old) result
         (folded (record { table = table; kinds = kinds.now; lo = lo; hi = hi }) column) }
     ensures sound { IfOk result IsSound }
     ensures rows { IfOk result (λ t. t.rows < 2 ^ 42) }
     ensures count { IfOk result (λ t. t.count < 2 ^ 42) }
-    ensures steps { OnOk result (IfSome (R.bytes file.old) (λ all. steps.new
+    ensures steps { OnOk result (IfSome (F.bytes file.old) (λ all. steps.new
         ≡ steps.old + steps_of (record { table = table; kinds = kinds.now; lo = lo; hi = hi }) all)) }
     ensures most_steps { steps.new ≤ steps.old + FOLD_STEPS }
-    ensures file { IsSameFile (R.bytes file.old) (R.bytes file.new) (R.file file.old) (R.file file.new)
-        (R.size file.old) (R.size file.new) }
-    ensures cause { HasScanCause None (R.count file.old) (R.count file.new) result }
+    ensures file { IsSameFile (F.bytes file.old) (F.bytes file.new) (F.file file.old) (F.file file.new)
+        (F.size file.old) (F.size file.new) }
+    ensures cause { HasScanCause None (F.count file.old) (F.count file.new) result }
 {
     let wanted = Wanted {
         table,

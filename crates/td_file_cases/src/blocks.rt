@@ -101,7 +101,8 @@ pub(crate) fn push_row(out: &mut Out, row: &(u64, Partial)) {
     }
 }
 
-fn push_cell(out: &mut Out, cell: Option<Value>) {
+/// Adds a cell: `-` where it names no value.
+pub(crate) fn push_cell(out: &mut Out, cell: Option<Value>) {
     match cell {
         None => out.push(b" -"),
         Some(Value::Null) => out.push(b" NULL"),

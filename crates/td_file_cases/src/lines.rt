@@ -1,7 +1,7 @@
 //! Lines and what they show.
 ghost use Rattle.std.specs.Prelude.{◌≡◌, ◌<◌};
 
-use crate::{blocks, folds, scans};
+use crate::{blocks, commits, folds, layers, scans};
 use std::alloc::Global;
 use std::sync::ledger::{Blank, Ledger};
 use td_cases::{CaseFault, Out};
@@ -78,6 +78,9 @@ fn push_answer<L: Ledger>(
         "datafail" => scans::push_failing_data(out, alloc, text, steps),
         "fold" => folds::push_folded(out, alloc, text, steps),
         "foldfail" => folds::push_failing(out, alloc, text, steps),
+        "layers" => layers::push_rows(out, alloc, text, steps),
+        "layersfail" => layers::push_failing(out, alloc, text, steps),
+        "commit" => commits::push_committed(out, alloc, text),
         _ => Err(CaseFault::Unread),
     }
 }

@@ -1,17 +1,21 @@
 //! [tests] Cases of files: each line of the input is a case, and its answer stands in the same line of the output.
 //!
 //! A case is a kind, a blank and a text. A line that is empty or begins with `#` is printed as it stands. The answers
-//! beside which the program's are compared were worked out from the formats by hand. `blocks` has the kinds of blocks,
-//! `scans` and `folds` those of stt files and data files; they say what a case of each looks like. It stands on
-//! `td_block`, `td_sttfile` and `td_datafile`, whose calls it asks, on `td_aggr` for what a fold gives, and on
-//! `td_cases`.
+//! beside which the program's are compared were worked out from the formats and the rules, without the program. `blocks`
+//! has the kinds of blocks, `scans` and `folds` those of stt files and data files, `layers` those of snapshots over such
+//! files and memtables, and `commits` those of the files that a memtable is written to; they say what a case of each
+//! looks like. It stands on `td_block`, `td_sttfile`, `td_datafile`, `td_fileset` and `td_commit`, whose calls it asks,
+//! on `td_memtable` for memtables, on `td_aggr` for what a fold gives, and on `td_cases`.
 #![tactic(auto)]
 
 mod blocks;
+mod commits;
 mod file;
 mod folds;
 mod hex;
+mod layers;
 mod lines;
+mod parts;
 mod scans;
 
 use lines::shown_all;

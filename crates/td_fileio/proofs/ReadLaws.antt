@@ -1,7 +1,7 @@
 -- Bytes that are read piece by piece, and parts of bytes that were read ahead.
 use Rattle.std.proofs.Common.{◌≡◌, ℕ, ◌+◌, ◌-◌, ◌≤◌, min, List, [], ◌++◌, length, take, drop, Option, Some, None, refl, sym, ap, subst, ◌∙◌, arith}
 use Rattle.std.specs.Prelude.{IfSome}
-use Rattle.std.proofs.lemmas.List.{take_at, take-append-le, take_all, take-take, take_min, drop-take, drop-drop, length-take, length-drop, length-append}
+use Rattle.std.proofs.lemmas.List.{take_at, take-append-le, take_all, take-take, take_min, drop-take, drop-drop, length-take, length-drop}
 use Rattle.std.proofs.Math.Seq.{take-add}
 use Rattle.td_fileio.specs.Reading.{StandsAt, IsPart, IsAhead}
 

@@ -1,10 +1,10 @@
 //! [formats] Reading and writing the bytes of a file in large pieces, over any reader and any writer.
 //!
 //! [`part_at`] reads so many bytes at a place of a file, or those that are left there. Small parts come from bytes
-//! that were read [`Ahead`], 64 KiB at a time; a large part is read by itself. [`read_exact_at`] fills a buffer by as
-//! many calls of the reader as it takes. [`put`] adds bytes to those that wait for a writer, and hands them on once
-//! they are 64 KiB; [`flush`] hands on what still waits. A [`RowList`] is what a file takes: tables with their cuts
-//! and rows; which blocks its rows make is a definition. A scan reads through [`FileBytes`], which each
+//! that were read [`Ahead`], 64 KiB at a time; a part of 16 KiB or more is read by itself. [`read_exact_at`] fills a
+//! buffer by as many calls of the reader as it takes. [`put`] adds bytes to those that wait for a writer, and hands
+//! them on once they are 64 KiB; [`flush`] hands on what still waits. A [`RowList`] is what a file takes: tables with
+//! their cuts and rows; which blocks its rows make is a definition. A scan reads through [`FileBytes`], which each
 //! reader is.
 //!
 //! Promised: what was read are exactly the bytes at that place, where the file tells its bytes, and a reader's

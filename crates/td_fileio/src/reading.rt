@@ -1,5 +1,5 @@
 //! Parts of a file.
-ghost use Rattle.std.specs.Prelude.{◌≡◌, ◌+◌, ◌-◌, ◌<◌, ◌≤◌, ◌^◌, min, [], length, take, drop, replicate, IfOk, OnOk, OnErr, IsTrue, Some};
+ghost use Rattle.std.specs.Prelude.{◌≡◌, ◌+◌, ◌-◌, ◌<◌, ◌≤◌, ◌^◌, min, max, [], length, take, drop, replicate, IfOk, OnOk, OnErr, IsTrue, Some};
 ghost use Rattle.td_outside.specs.Causes.{HasCause};
 ghost use Rattle.td_layer.specs.Scans.{HasScanCause};
 ghost use Rattle.td_fileio.specs.declared.reading.TheConstants.{PIECE};
@@ -10,7 +10,10 @@ use std::alloc::Global;
 use td_layer::{Name, NoMem, ScanFault, Seq};
 use td_outside::Failed;
 
-const PIECE: u64 = 65_536;
+pub(crate) const PIECE: u64 = 65_536;
+
+// A part of at least so many bytes is read by itself.
+const ALONE: u64 = 16_384;
 
 /// Bytes of a file that were read ahead, and the place from which on they stand there.
 #[derive(Debug, Drop)]
@@ -105,25 +108,27 @@ fn held_part(alloc: Global, ahead: &Ahead, at: u64, count: usize) -> Result<Vec<
     Ok(part)
 }
 
-// Reads 64 KiB ahead from a place on, or what is left there, of a file of this size.
+// Reads 64 KiB ahead from a place on, or as many as are asked for where these are more, or what is left there, of a
+// file of this size.
 fn read_ahead<R: FileBytes>(
     alloc: Global,
     file: &mut R,
     ahead: &mut Ahead,
     at: u64,
+    least: usize,
     size: u64,
 ) -> Result<(), ScanFault>
     requires size { size ≡ R.size file.old }
-    requires within { at ≤ size }
+    requires within { at + least ≤ size }
     requires ahead { IsAhead (R.bytes file.old) ahead.old.from ahead.old.bytes }
     ensures from { OnOk result (ahead.new.from ≡ at) }
-    ensures held { OnOk result (length ahead.new.bytes ≡ min PIECE (size - at)) }
+    ensures held { OnOk result (length ahead.new.bytes ≡ min (max PIECE least) (size - at)) }
     ensures ahead { IsAhead (R.bytes file.new) ahead.new.from ahead.new.bytes }
     ensures file { IsSameFile (R.bytes file.old) (R.bytes file.new) (R.file file.old) (R.file file.new)
         (R.size file.old) (R.size file.new) }
     ensures cause { HasScanCause (Some []) (R.count file.old) (R.count file.new) result }
 {
-    let count = PIECE.min(size - at) as usize;
+    let count = PIECE.max(least as u64).min(size - at) as usize;
     let part = exact_part(alloc, file, at, count)?;
     ahead.from = at;
     ahead.bytes = Seq::from_vec(alloc, part);
@@ -141,7 +146,6 @@ fn have_ahead<R: FileBytes>(
 ) -> Result<(), ScanFault>
     requires size { size ≡ R.size file.old }
     requires within { at + count ≤ size }
-    requires few { count < PIECE }
     requires ahead { IsAhead (R.bytes file.old) ahead.old.from ahead.old.bytes }
     ensures from { OnOk result (ahead.new.from ≤ at) }
     ensures held { OnOk result (at - ahead.new.from + count ≤ length ahead.new.bytes) }
@@ -153,12 +157,13 @@ fn have_ahead<R: FileBytes>(
     if holds(ahead, at, count) {
         return Ok(());
     }
-    read_ahead(alloc, file, ahead, at, size)?;
+    read_ahead(alloc, file, ahead, at, count, size)?;
     Ok(())
 }
 
-/// A part of a file: so many bytes at a place, or those that are left there. A part of less than 64 KiB comes from
-/// the bytes that were read ahead, and where it isn't among them the next 64 KiB are read ahead.
+/// A part of a file: so many bytes at a place, or those that are left there. It comes from the bytes that were read
+/// ahead, where it is among them. Else a part of at least 16 KiB is read by itself, and for a smaller one the next
+/// 64 KiB are read ahead.
 pub fn part_at<R: FileBytes>(
     alloc: Global,
     file: &mut R,
@@ -180,7 +185,7 @@ pub fn part_at<R: FileBytes>(
         return Ok(Vec::new(alloc));
     }
     let count = left.min(most as u64) as usize;
-    if count as u64 >= PIECE {
+    if count as u64 >= ALONE && !holds(ahead, at, count) {
         let part = exact_part(alloc, file, at, count)?;
         return Ok(part);
     }

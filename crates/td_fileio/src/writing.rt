@@ -3,11 +3,10 @@ ghost use Rattle.std.specs.Prelude.{◌≡◌, ◌++◌, OnOk, OnErr, [], IfOk};
 ghost use Rattle.std.specs.Io.KnownBytes.{append_known};
 ghost use Rattle.td_fileio.specs.Writing.{Adds};
 
+use crate::reading::PIECE;
 use std::alloc::Global;
 use td_layer::NoMem;
 use td_outside::{IoFault, Writer};
-
-const PIECE: usize = 65_536;
 
 // Adds bytes to those that wait.
 fn extend(waiting: &mut Vec<u8>, bytes: &[u8]) -> Result<(), NoMem>
@@ -41,7 +40,7 @@ pub fn put<W: Writer>(
         (W.name out.old) (W.name out.new) (W.count out.old) (W.count out.new) result bytes.now }
 {
     extend(waiting, bytes)?;
-    if waiting.len() >= PIECE {
+    if waiting.len() as u64 >= PIECE {
         flush(alloc, out, waiting)?;
     }
     Ok(())

@@ -9,7 +9,7 @@ use Rattle.td_fileset.specs.Opened.{Readers, shown_count}
 use Rattle.td_fileset.specs.Pieces.{set_at}
 use Rattle.td_fileset.proofs.Spanned.{cause_beside}
 
-abbrev files_of : List Readers → List OpenSet
+abbrev pub files_of : List Readers → List OpenSet
 files_of rs = map (λ (r : Readers). r.files) rs
 
 pub set_there : (rs : List Readers) (i : ℕ) (d : Readers) → i < length rs → set_at (files_of rs) (Some i) ≡ (get_or rs i d).files

@@ -21,3 +21,5 @@ pub mod Spanned
 pub mod Stepped
 pub mod Answered
 pub mod Indexed
+pub mod Advanced
+pub mod Told

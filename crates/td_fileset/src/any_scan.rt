@@ -7,18 +7,18 @@ ghost use Rattle.td_fileset.specs.Opened.{scan_left, scan_cuts, scan_begun, scan
 
 use crate::scan::LayerScan;
 use std::sync::ledger::Ledger;
+use td_fileio::FileBytes;
 use td_layer::{Key, Partial, RowScan, ScanFault, Steps};
 use td_memtable::MemScan;
-use td_outside::Reader;
 
 /// A scan of a memtable, of an stt file or of a data file.
-pub(crate) enum AnyScan<'a, R: Reader> {
+pub(crate) enum AnyScan<'a, R: FileBytes> {
     Memtable(MemScan<'a>),
     Stt(td_sttfile::FileScan<'a, R>),
     Data(td_datafile::FileScan<'a, R>),
 }
 
-impl<'a, R: Reader> RowScan for AnyScan<'a, R> {
+impl<'a, R: FileBytes> RowScan for AnyScan<'a, R> {
     ghost left = { scan_left };
 
     ghost cuts = { scan_cuts };
@@ -54,7 +54,7 @@ impl<'a, R: Reader> RowScan for AnyScan<'a, R> {
     }
 }
 
-impl<'a, R: Reader> LayerScan for AnyScan<'a, R> {
+impl<'a, R: FileBytes> LayerScan for AnyScan<'a, R> {
     ghost reads = { scan_reads };
 
     fn read<L: Ledger>(

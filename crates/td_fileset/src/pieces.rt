@@ -5,8 +5,7 @@ ghost use Rattle.td_fileset.specs.Opened.{Readers};
 ghost use Rattle.td_fileset.specs.Pieces.{IsNearest, IsPiece};
 
 use crate::set_readers::SetReaders;
-use td_fileio::{day_end, day_start};
-use td_outside::Reader;
+use td_fileio::{FileBytes, day_end, day_start};
 
 /// The first timestamps of a range, up to one, and the number of the file set whose day range they meet, counted from
 /// 0, where they meet one.
@@ -35,7 +34,7 @@ fn nearer(nearest: Option<(usize, u32)>, from: u64, at: usize, range: u32) -> Op
 }
 
 // The least day range that doesn't end before a timestamp, with the number of its set, counted from 0.
-fn nearest_set<R: Reader>(sets: &[SetReaders<R>], from: u64) -> Option<(usize, u32)>
+fn nearest_set<R: FileBytes>(sets: &[SetReaders<R>], from: u64) -> Option<(usize, u32)>
     ensures { IsNearest from (map (λ (s : OpenSet). s.range) (map (λ (r : Readers). r.files) sets.now))
         (length (map (λ (r : Readers). r.files) sets.now)) result }
 {
@@ -48,7 +47,7 @@ fn nearest_set<R: Reader>(sets: &[SetReaders<R>], from: u64) -> Option<(usize, u
 
 /// The first piece of a range of timestamps.
 #[tactic(auto, using(crate::proofs::Nearest::none_near, crate::proofs::Nearest::none_meets, crate::proofs::Nearest::one_meets,))]
-pub(crate) fn next_piece<R: Reader>(sets: &[SetReaders<R>], from: u64, hi: u64) -> Piece
+pub(crate) fn next_piece<R: FileBytes>(sets: &[SetReaders<R>], from: u64, hi: u64) -> Piece
     requires own { HaveOwnRanges (map (λ (r : Readers). r.files) sets.now) }
     requires some { from ≤ hi }
     ensures { IsPiece (map (λ (r : Readers). r.files) sets.now) from hi result.to result.set }

@@ -6,9 +6,9 @@ ghost use Rattle.td_layer.specs.Scans.{GivesFirst, HasScanCause, given};
 ghost use Rattle.td_fileset.specs.Sources.{Reads, InMemory, InSttFile, InDataFile};
 
 use std::sync::ledger::Ledger;
+use td_fileio::FileBytes;
 use td_layer::{Key, Partial, RowScan, ScanFault, Steps};
 use td_memtable::MemScan;
-use td_outside::Reader;
 
 /// A scan of one layer that says what it reads, so that its reader is known once it ends.
 pub trait LayerScan: RowScan {
@@ -42,7 +42,7 @@ impl<'a> LayerScan for MemScan<'a> {
     }
 }
 
-impl<'a, R: Reader> LayerScan for td_sttfile::FileScan<'a, R> {
+impl<'a, R: FileBytes> LayerScan for td_sttfile::FileScan<'a, R> {
     ghost reads = { λ s. record { kept = InSttFile; bytes = s.told; file = s.file; size = s.size } };
 
     fn read<L: Ledger>(
@@ -54,7 +54,7 @@ impl<'a, R: Reader> LayerScan for td_sttfile::FileScan<'a, R> {
     }
 }
 
-impl<'a, R: Reader> LayerScan for td_datafile::FileScan<'a, R> {
+impl<'a, R: FileBytes> LayerScan for td_datafile::FileScan<'a, R> {
     ghost reads = { λ s. record { kept = InDataFile; bytes = s.told; file = s.file; size = s.size } };
 
     fn read<L: Ledger>(

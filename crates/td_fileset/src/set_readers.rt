@@ -8,18 +8,19 @@ ghost use Rattle.td_fileset.specs.Opened.{scan_reads, scan_count, with_kept, Has
 use crate::any_scan::AnyScan;
 use std::alloc::Global;
 use std::marker::Model;
-use td_outside::Reader;
+use td_fileio::FileBytes;
 
 /// The open readers of a file set: those of its stt files, the newest first, and that of its data file, where there is
 /// one. Contracts see the files that they read, how often they failed together, and for how many readers of stt files
 /// there is memory.
-pub struct SetReaders<R: Reader> {
+#[derive(Drop)]
+pub struct SetReaders<R: FileBytes> {
     pub range: u32,
     pub stt: Vec<R>,
     pub main: Option<R>,
 }
 
-impl<R: Reader> Model for SetReaders<R> {
+impl<R: FileBytes> Model for SetReaders<R> {
     ghost use Rattle.std.specs.Prelude.{◌≤◌, map, length, vec_capacity};
     ghost use Rattle.std.specs.Option.{option_map};
     ghost use Rattle.td_fileset.specs.Sources.{InSttFile, InDataFile};
@@ -42,7 +43,7 @@ impl<R: Reader> Model for SetReaders<R> {
 }
 
 // How often readers failed together, up to the number's end.
-fn faults_of<R: Reader>(readers: &[R]) -> u64
+fn faults_of<R: FileBytes>(readers: &[R]) -> u64
     ensures { result ≡ shown_count (sum (map R.count readers.now)) }
 {
     let mut faults: u64 = 0;
@@ -52,7 +53,7 @@ fn faults_of<R: Reader>(readers: &[R]) -> u64
     faults
 }
 
-impl<R: Reader> SetReaders<R> {
+impl<R: FileBytes> SetReaders<R> {
     // The set of no file.
     pub(crate) fn none(alloc: Global) -> SetReaders<R>
         ensures files { result.files ≡ no_set }
@@ -65,10 +66,12 @@ impl<R: Reader> SetReaders<R> {
         }
     }
 
-    // Ends the set of no file.
+    // Ends the set of no file, of which none failed.
+    #[tactic(auto, using(crate::proofs::Advanced::none_failed))]
     pub(crate) fn done(self)
         requires stt { self.files.stt ≡ [] }
         requires main { self.files.main ≡ None }
+        ensures { self.failed ≡ 0 }
     {
         let SetReaders {
             range: _,

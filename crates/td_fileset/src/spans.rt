@@ -17,9 +17,9 @@ use crate::set_readers::SetReaders;
 use std::alloc::Global;
 use std::sync::ledger::Ledger;
 use td_cols::Kind;
+use td_fileio::FileBytes;
 use td_layer::{Key, NoMem, Row, ScanFault, Seq, Steps};
 use td_memtable::Memtable;
-use td_outside::Reader;
 
 /// A table, by number, with the kinds of its columns, from `lo` to `hi`, both among them.
 #[derive(Clone, Copy)]
@@ -52,7 +52,7 @@ impl<'a> Span<'a> {
 // ---- scans over one another
 
 // Puts a scan over those of a merge. Where there is no memory its reader goes back to the set.
-fn push_scan<'a, R: Reader>(
+fn push_scan<'a, R: FileBytes>(
     merging: &mut Merging<AnyScan<'a, R>>,
     set: &mut SetReaders<R>,
     scan: AnyScan<'a, R>,
@@ -77,7 +77,7 @@ fn push_scan<'a, R: Reader>(
 }
 
 // Puts a scan of the set's data file, where there is one, over those of a merge.
-fn push_data<'a, R: Reader>(
+fn push_data<'a, R: FileBytes>(
     alloc: Global,
     merging: &mut Merging<AnyScan<'a, R>>,
     set: &mut SetReaders<R>,
@@ -102,7 +102,7 @@ fn push_data<'a, R: Reader>(
 }
 
 // Puts scans of the set's stt files over those of a merge, the oldest first.
-fn push_stt<'a, R: Reader>(
+fn push_stt<'a, R: FileBytes>(
     alloc: Global,
     merging: &mut Merging<AnyScan<'a, R>>,
     set: &mut SetReaders<R>,
@@ -126,7 +126,7 @@ fn push_stt<'a, R: Reader>(
 }
 
 // Puts scans of memtables over those of a merge, the oldest first.
-fn push_memtables<'a, R: Reader>(
+fn push_memtables<'a, R: FileBytes>(
     merging: &mut Merging<AnyScan<'a, R>>,
     set: &mut SetReaders<R>,
     memtables: &'a [Memtable],
@@ -154,7 +154,7 @@ fn push_memtables<'a, R: Reader>(
 }
 
 // Takes the scans out of a merge, and gives their readers back to the set.
-fn take_back<'a, R: Reader>(merging: Merging<AnyScan<'a, R>>, set: &mut SetReaders<R>)
+fn take_back<'a, R: FileBytes>(merging: Merging<AnyScan<'a, R>>, set: &mut SetReaders<R>)
     requires { HasRoom merging.reads set.old }
     ensures files { set.new.files ≡ all_files merging.entry set.old }
     ensures failed { set.new.failed ≡ all_failed merging.entry set.old }
@@ -194,7 +194,7 @@ fn add_rows<S: LayerScan, L: Ledger>(
 }
 
 // Puts scans of memtables and of the set's files over one another, and adds the rows that they make.
-fn add_merged<'a, R: Reader, L: Ledger>(
+fn add_merged<'a, R: FileBytes, L: Ledger>(
     alloc: Global,
     merging: &mut Merging<AnyScan<'a, R>>,
     memtables: &'a [Memtable],
@@ -229,7 +229,7 @@ fn add_merged<'a, R: Reader, L: Ledger>(
 
 /// Adds the rows that memtables, the newest first, and the files of a set make in a span, of which the files count in a
 /// span of their own. It leaves the files of the set, and a fault leaves some rows of them added.
-pub(crate) fn add_between<R: Reader, L: Ledger>(
+pub(crate) fn add_between<R: FileBytes, L: Ledger>(
     alloc: Global,
     memtables: &[Memtable],
     set: &mut SetReaders<R>,

@@ -1,4 +1,3 @@
-pub mod Adding
 pub mod Bytes
 pub mod Contents
 pub mod Headers

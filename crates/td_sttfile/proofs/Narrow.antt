@@ -1,5 +1,5 @@
 -- A scan of a range is part of a scan of a wider one.
-use Rattle.std.proofs.Common.{◌≡◌, ℕ, zero, suc, ◌≤◌, Bool, true, false, cond, ◌&&◌, nat_le, List, [], ◌∷◌, ◌++◌, map, Option, Some, None, Result, Ok, Err, refl, sym, ap, ◌∙◌, arith}
+use Rattle.std.proofs.Common.{◌≡◌, ℕ, zero, suc, ◌≤◌, Bool, true, false, cond, ◌&&◌, nat_le, List, [], ◌∷◌, ◌++◌, Option, Some, None, Result, Ok, Err, refl, sym, ap, ◌∙◌, arith}
 use Rattle.std.specs.List.{filter}
 use Rattle.std.proofs.lemmas.List.Elements.{filter-append}
 use Rattle.std.proofs.lemmas.Bool.Decides.{nat_tests}
@@ -12,7 +12,7 @@ use Rattle.td_sttfile.specs.declared.format.FileCut.{FileCut}
 use Rattle.td_sttfile.specs.declared.blocks.Found.{Found}
 use Rattle.td_sttfile.specs.Opening.{opening_at}
 use Rattle.td_sttfile.specs.Blocks.{block_at, key_of}
-use Rattle.td_sttfile.specs.Scanned.{Want, is_wanted, wanted_of, keyed, Walked, nothing_left, then_walk, walk, before_all, behind_opening, scanned}
+use Rattle.td_sttfile.specs.Scanned.{is_wanted, wanted_of, keyed, Walked, then_walk, walk, before_all, behind_opening, scanned}
 use Rattle.td_sttfile.specs.Ranges.{narrowed}
 
 abbrev in_range : ℕ → ℕ → Key × Partial → Bool

@@ -19,7 +19,6 @@ use std::sync::ledger::Ledger;
 use td_cols::Kind;
 use td_fileio::{Ahead, FileBytes};
 use td_layer::{Key, NoMem, Partial, RowScan, ScanFault, Seq, Steps};
-use td_outside::Reader;
 
 // ---- steps
 
@@ -47,7 +46,7 @@ fn wanted_of(
     ensures { IfOk result (λ wanted. reverse wanted ≡ wanted_of lo hi rows) }
 {
     let mut left = rows;
-    let mut wanted = Seq::new(alloc);
+    let mut wanted = Seq::from_vec(alloc, Vec::with_capacity(alloc, left.len())?);
     while let Some(row) = left.pop() {
         if lo <= row.0 && row.0 <= hi {
             wanted.add(row)?;
@@ -132,8 +131,10 @@ fn next_row(table: u32, rows: &mut Seq<(u64, Partial)>) -> Option<(Key, Partial)
     }
 }
 
-// A scan over the bytes of a file.
-struct BlockScan<'a, F: FileBytes> {
+/// A scan of a file: the partials of a table in a range of timestamps, by key, with the file's cuts. Contracts see what
+/// it wants, its file, and what is left of it, where the file tells its bytes. The first call of `next` reads what
+/// stands before the blocks; blocks are read one by one as their rows are asked for.
+pub struct FileScan<'a, F: FileBytes> {
     alloc: Global,
     file: F,
     ahead: Ahead,
@@ -145,7 +146,7 @@ struct BlockScan<'a, F: FileBytes> {
     rows: Seq<(u64, Partial)>,
 }
 
-impl<'a, F: FileBytes> Model for BlockScan<'a, F> {
+impl<'a, F: FileBytes> Model for FileScan<'a, F> {
     ghost use Rattle.td_sttfile.specs.Scanning.{want_of, Scan, left_of, IsScan};
 
     ghost Value = { Scan };
@@ -164,9 +165,9 @@ impl<'a, F: FileBytes> Model for BlockScan<'a, F> {
         s.cuts s.rows s.spot };
 }
 
-impl<'a, F: FileBytes> BlockScan<'a, F> {
+impl<'a, F: FileBytes> FileScan<'a, F> {
     // A scan that has read nothing yet.
-    fn new(alloc: Global, file: F, wanted: Wanted<'a>) -> BlockScan<'a, F>
+    fn new(alloc: Global, file: F, wanted: Wanted<'a>) -> FileScan<'a, F>
         ensures want { result.want ≡ want_of wanted.entry }
         ensures told { result.told ≡ F.bytes file }
         ensures file { result.file ≡ F.file file }
@@ -176,7 +177,7 @@ impl<'a, F: FileBytes> BlockScan<'a, F> {
         ensures left { result.left
             ≡ option_map (λ all. (scanned (want_of wanted.entry) all).partials) (F.bytes file) }
     {
-        BlockScan {
+        FileScan {
             alloc,
             file,
             ahead: Ahead::new(alloc),
@@ -239,29 +240,14 @@ impl<'a, F: FileBytes> BlockScan<'a, F> {
         Ok(given)
     }
 
-    // Whether a key lies in a cut of the file, of a scan that has begun.
-    fn cuts_at(&self, key: Key) -> bool
-        requires { self.now.begun ≡ true }
-        ensures { IfSome (cuts_of self.now) (λ all. result ≡ is_cut key all) }
-    {
-        lies_in_any(self.cuts.as_slice(), key)
-    }
-
-    // How often reading failed.
-    fn faults(&self) -> u64
-        ensures { result ≡ self.now.count }
-    {
-        self.file.faults()
-    }
-
-    // The file.
-    fn into_file(self) -> F
+    /// The reader, which has read what the scan did, and has its faults.
+    pub fn into_reader(self) -> F
         ensures told { F.bytes result ≡ self.entry.told }
         ensures file { F.file result ≡ self.entry.file }
         ensures size { F.size result ≡ self.entry.size }
         ensures count { F.count result ≡ self.entry.count }
     {
-        let BlockScan {
+        let FileScan {
             alloc: _,
             file,
             ahead: _,
@@ -275,38 +261,23 @@ impl<'a, F: FileBytes> BlockScan<'a, F> {
     }
 }
 
-/// A scan of a file: the partials of a table in a range of timestamps, by key, with the file's cuts. Contracts see what
-/// it wants, its file, and what is left of it, where the file tells its bytes. The first call of `next` reads what
-/// stands before the blocks; blocks are read one by one as their rows are asked for.
-pub struct FileScan<'a, R: Reader> {
-    scan: BlockScan<'a, R>,
-}
-
-impl<'a, R: Reader> Model for FileScan<'a, R> {
-    ghost use Rattle.td_sttfile.specs.Scanning.{Scan};
-
-    ghost Value = { Scan };
-
-    ghost view = { λ s. s.scan };
-}
-
 /// A scan of a file for the partials of a table, by number, with columns of these kinds, from `lo` to `hi`, both among
 /// them. It reads nothing yet.
-pub fn scan<'a, R: Reader>(
+pub fn scan<'a, F: FileBytes>(
     alloc: Global,
-    file: R,
+    file: F,
     table: u32,
     kinds: &'a [Kind],
     lo: u64,
     hi: u64,
-) -> FileScan<'a, R>
+) -> FileScan<'a, F>
     ensures want { result.want ≡ record { table = table; kinds = kinds.now; lo = lo; hi = hi } }
-    ensures told { result.told ≡ R.bytes file }
-    ensures file { result.file ≡ R.file file }
-    ensures size { result.size ≡ R.size file }
-    ensures count { result.count ≡ R.count file }
+    ensures told { result.told ≡ F.bytes file }
+    ensures file { result.file ≡ F.file file }
+    ensures size { result.size ≡ F.size file }
+    ensures count { result.count ≡ F.count file }
     ensures begun { result.begun ≡ false }
-    ensures left { result.left ≡ option_map (λ all. (scanned result.want all).partials) (R.bytes file) }
+    ensures left { result.left ≡ option_map (λ all. (scanned result.want all).partials) (F.bytes file) }
 {
     let wanted = Wanted {
         table,
@@ -314,25 +285,10 @@ pub fn scan<'a, R: Reader>(
         lo,
         hi,
     };
-    FileScan {
-        scan: BlockScan::new(alloc, file, wanted),
-    }
+    FileScan::new(alloc, file, wanted)
 }
 
-impl<'a, R: Reader> FileScan<'a, R> {
-    /// The reader, which has read what the scan did, and has its faults.
-    pub fn into_reader(self) -> R
-        ensures told { R.bytes result ≡ self.entry.told }
-        ensures file { R.file result ≡ self.entry.file }
-        ensures size { R.size result ≡ self.entry.size }
-        ensures count { R.count result ≡ self.entry.count }
-    {
-        let FileScan { scan } = self;
-        scan.into_file()
-    }
-}
-
-impl<'a, R: Reader> RowScan for FileScan<'a, R> {
+impl<'a, F: FileBytes> RowScan for FileScan<'a, F> {
     ghost left = { λ s. s.left };
 
     ghost cuts = { cuts_of };
@@ -357,8 +313,8 @@ impl<'a, R: Reader> RowScan for FileScan<'a, R> {
         ensures sound { IfOk result (λ o. o ≡ None → IsSound self.old) }
         ensures same { IsSameScan self.old self.new }
     {
-        self.scan.begin()?;
-        let Some(given) = self.scan.take()? else {
+        self.begin()?;
+        let Some(given) = self.take()? else {
             return Ok(None);
         };
         steps.tick();
@@ -366,10 +322,10 @@ impl<'a, R: Reader> RowScan for FileScan<'a, R> {
     }
 
     fn cut_at(&self, key: Key) -> bool {
-        self.scan.cuts_at(key)
+        lies_in_any(self.cuts.as_slice(), key)
     }
 
     fn faults(&self) -> u64 {
-        self.scan.faults()
+        self.file.faults()
     }
 }

@@ -1,4 +1,4 @@
-use Rattle.std.proofs.Common.{◌≡◌, ℕ, [], ◌+◌, length, refl, ap, ◌∙◌}
+use Rattle.std.proofs.Common.{ℕ, [], ◌+◌, length, refl, ap, ◌∙◌}
 use Rattle.std.proofs.lemmas.Result.{err_from_is_err_and}
 use Rattle.std.proofs.lemmas.List.{length_push}
 use Rattle.td_codec.specs.Lists.{each, items_read}

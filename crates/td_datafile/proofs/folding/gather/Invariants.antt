@@ -1,4 +1,4 @@
-use Rattle.std.proofs.Common.{◌≡◌, ℕ, ◌+◌, ◌-◌, ◌*◌, ◌^◌, ◌<◌, ◌≤◌, length, drop}
+use Rattle.std.proofs.Common.{◌≡◌, ◌+◌, ◌-◌, ◌*◌, ◌^◌, ◌<◌, ◌≤◌, length, drop}
 use Rattle.std.specs.Prelude.{IfSome}
 use Rattle.td_limits.specs.declared.limits.TheConstants.{BLOCK_ROWS}
 use Rattle.td_fileio.specs.Reading.{IsAhead, IsSameFile}

@@ -1,7 +1,6 @@
-use Rattle.std.proofs.Common.{◌≡◌, ℕ, ◌+◌, ◌^◌, ◌<◌, Ok, reverse, arith, rules}
+use Rattle.std.proofs.Common.{◌≡◌, ◌+◌, ◌^◌, ◌<◌, Ok, reverse, arith, rules}
 use Rattle.std.proofs.lemmas.Result.{err_from_is_err_and}
 use Rattle.td_fileio.proofs.ReadLaws.{told_1}
-use Rattle.td_datafile.specs.Blocks.{entry_length}
 use Rattle.td_datafile.specs.Scanned.{wanted_block}
 use Rattle.td_datafile.specs.Scanning.{want_of, Keeps}
 use Rattle.td_datafile.proofs.Walks.{entry_here, spot_moved, keeps_more, room_here, room_more, read_fault}

@@ -7,7 +7,7 @@ use Rattle.td_fileio.proofs.WriteLaws.{begins_adding}
 use Rattle.td_datafile.specs.declared.format.TheConstants.{FILE_MAGIC, FILE_END}
 use Rattle.td_datafile.specs.Index.{bytes_of_block, index_of, entry_bytes}
 use Rattle.td_datafile.specs.Written.{blocks_begin, file_bytes}
-use Rattle.td_datafile.proofs.Adding.{then, finally, so_far_at}
+use Rattle.td_fileio.proofs.Adding.{then, finally, so_far_at}
 use Rattle.td_datafile.proofs.writing.put_file.Goals as goal
 
 pub returns : goal.returns

@@ -9,7 +9,7 @@ use Rattle.td_block.specs.Rows.{Rows, CanHold, IsRowOf}
 use Rattle.td_fileio.specs.Lists.{FileBlock, blocks_of_rows, table_blocks}
 use Rattle.td_fileio.proofs.ListLaws.{blocks_begin, blocks_end, rises_take, rises_drop, all_take, all_drop}
 use Rattle.td_datafile.specs.Index.{bytes_of_block, entry_of, entry_bytes}
-use Rattle.td_datafile.proofs.Adding.{then, so_far_at, all_added}
+use Rattle.td_fileio.proofs.Adding.{then, so_far_at, all_added}
 use Rattle.td_datafile.proofs.IndexLaws.{block_goes_on, index_ends}
 use Rattle.td_datafile.proofs.writing.put_table.Goals as goal
 

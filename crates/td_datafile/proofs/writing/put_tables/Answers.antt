@@ -4,7 +4,7 @@ use Rattle.std.proofs.lemmas.List.Concat.{flat_map-append}
 use Rattle.td_fileio.specs.declared.lists.TableRows.{TableRows}
 use Rattle.td_fileio.specs.Lists.{table_blocks, all_blocks, AreTableRows}
 use Rattle.td_datafile.specs.Index.{bytes_of_block}
-use Rattle.td_datafile.proofs.Adding.{then, so_far_at}
+use Rattle.td_fileio.proofs.Adding.{then, so_far_at}
 use Rattle.td_datafile.proofs.IndexLaws.{index_goes_on}
 use Rattle.td_datafile.proofs.writing.put_tables.Goals as goal
 

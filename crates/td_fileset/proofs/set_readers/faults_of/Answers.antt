@@ -5,5 +5,5 @@ use Rattle.td_fileset.proofs.set_readers.faults_of.Goals as goal
 
 pub returns : goal.returns
 returns g c =
-    all_counted g.R.Reader.count c.args.readers.now c.loop-reader.reader-index c.loop-reader.faults (shown_count (sum (map g.R.Reader.count c.args.readers.now)))
+    all_counted g.R.FileBytes.count c.args.readers.now c.loop-reader.reader-index c.loop-reader.faults (shown_count (sum (map g.R.FileBytes.count c.args.readers.now)))
     c.loop-reader-test.false c.loop-reader.invariant.few c.loop-reader.invariant.all

@@ -5,6 +5,6 @@ use Rattle.td_fileset.proofs.set_readers.faults_of.Given as goal
 
 abbrev pub invariant-loop-reader : goal.invariant-loop-reader
 invariant-loop-reader g l = record {
-  all : shown_count (l.faults + sum (map g.R.Reader.count (drop l.reader-index l.readers))) ≡ shown_count (sum (map g.R.Reader.count l.readers));
+  all : shown_count (l.faults + sum (map g.R.FileBytes.count (drop l.reader-index l.readers))) ≡ shown_count (sum (map g.R.FileBytes.count l.readers));
   few : l.faults ≤ 2 ^ 64 - 1;
 }

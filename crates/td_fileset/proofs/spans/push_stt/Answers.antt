@@ -18,9 +18,9 @@ loop-reader-preserved g c =
     let taken = c.take_oldest.new.self in
     let now = c.push_scan.new.set in
     let scan = c.scan-scan.result in
-    let bytes = g.R.Reader.bytes c.in-Some.reader in
-    let file = g.R.Reader.file c.in-Some.reader in
-    let size = g.R.Reader.size c.in-Some.reader in
+    let bytes = g.R.FileBytes.bytes c.in-Some.reader in
+    let file = g.R.FileBytes.file c.in-Some.reader in
+    let size = g.R.FileBytes.size c.in-Some.reader in
     let reads = stt_reads span bytes file size in
     let made = c.scan-scan.ensures in
     let said = c.in_ok-push_scan.ensures in
@@ -38,6 +38,6 @@ loop-reader-preserved g c =
           ∙ (λ i. with_files merging.reads (with_kept InSttFile (record { kept = InSttFile; bytes = made.told i; file = made.file i; size = made.size i }) taken.files))
           ∙ sym (ap (with_files merging.reads) left.files)
           ∙ kept.files;
-      failed = counted (g.R.Reader.count c.in-Some.reader) was.failed taken.failed now.failed (sum merging.counts) (sum c.push_scan.new.merging.counts) _ left.failed (said.failed ∙ ap (λ n. (taken.failed + sum merging.counts) + n) made.count) kept.failed;
+      failed = counted (g.R.FileBytes.count c.in-Some.reader) was.failed taken.failed now.failed (sum merging.counts) (sum c.push_scan.new.merging.counts) _ left.failed (said.failed ∙ ap (λ n. (taken.failed + sum merging.counts) + n) made.count) kept.failed;
       main = ap (λ (s : Readers). s.files.main) said.stays ∙ sym (ap (λ (s : OpenSet). s.main) left.files) ∙ kept.main;
     }

@@ -2,7 +2,7 @@ use Rattle.std.proofs.Common.{◌++◌}
 use Rattle.std.specs.Int.{w32, w64, to_le_bytes}
 use Rattle.std.specs.Io.KnownBytes.{append_known}
 use Rattle.td_fileio.proofs.WriteLaws.{begins_adding}
-use Rattle.td_sttfile.proofs.Adding.{then, finally}
+use Rattle.td_fileio.proofs.Adding.{then, finally}
 use Rattle.td_sttfile.proofs.writing.put_cut.Goals as goal
 
 pub returns : goal.returns

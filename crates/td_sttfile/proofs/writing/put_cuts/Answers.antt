@@ -4,7 +4,7 @@ use Rattle.std.proofs.lemmas.List.Concat.{flat_map-append}
 use Rattle.td_fileio.specs.declared.lists.TableRows.{TableRows}
 use Rattle.td_sttfile.specs.declared.format.FileCut.{FileCut}
 use Rattle.td_sttfile.specs.Written.{cut_bytes, table_cuts, all_cuts}
-use Rattle.td_sttfile.proofs.Adding.{then, so_far_at}
+use Rattle.td_fileio.proofs.Adding.{then, so_far_at}
 use Rattle.td_sttfile.proofs.writing.put_cuts.Goals as goal
 
 pub loop-table-preserved : goal.loop-table-preserved

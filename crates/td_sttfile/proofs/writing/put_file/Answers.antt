@@ -6,7 +6,7 @@ use Rattle.td_fileio.specs.Lists.{all_blocks}
 use Rattle.td_fileio.proofs.WriteLaws.{begins_adding}
 use Rattle.td_sttfile.specs.declared.format.TheConstants.{FILE_MAGIC, FILE_END}
 use Rattle.td_sttfile.specs.Written.{all_cuts, cut_bytes, bytes_of_block, file_bytes}
-use Rattle.td_sttfile.proofs.Adding.{then, finally, so_far_at}
+use Rattle.td_fileio.proofs.Adding.{then, finally, so_far_at}
 use Rattle.td_sttfile.proofs.writing.put_file.Goals as goal
 
 pub returns : goal.returns

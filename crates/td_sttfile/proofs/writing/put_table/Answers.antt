@@ -10,7 +10,7 @@ use Rattle.td_block.specs.Blocks.{block_bytes}
 use Rattle.td_fileio.specs.Lists.{FileBlock, blocks_of_rows}
 use Rattle.td_fileio.proofs.ListLaws.{blocks_begin, blocks_end, rises_take, rises_drop, all_take, all_drop}
 use Rattle.td_sttfile.specs.Written.{bytes_of_block}
-use Rattle.td_sttfile.proofs.Adding.{then, so_far_at, all_added}
+use Rattle.td_fileio.proofs.Adding.{then, so_far_at, all_added}
 use Rattle.td_sttfile.proofs.writing.put_table.Goals as goal
 
 pub encode-requires : goal.encode-requires

@@ -2,7 +2,7 @@ use Rattle.std.proofs.Common.{ℕ, List, map, ap}
 use Rattle.std.specs.List.{flat_map}
 use Rattle.td_sttfile.specs.declared.format.FileCut.{FileCut}
 use Rattle.td_sttfile.specs.Written.{cut_bytes}
-use Rattle.td_sttfile.proofs.Adding.{then, so_far_at}
+use Rattle.td_fileio.proofs.Adding.{then, so_far_at}
 use Rattle.td_sttfile.proofs.writing.put_table_cuts.Goals as goal
 
 pub loop-cut-preserved : goal.loop-cut-preserved

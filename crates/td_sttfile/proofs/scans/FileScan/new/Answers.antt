@@ -5,7 +5,7 @@ use Rattle.td_layer.specs.Columns.{AreColumnCells}
 use Rattle.td_block.specs.Rows.{Rows}
 use Rattle.td_sttfile.specs.Scanning.{want_of}
 use Rattle.td_sttfile.proofs.States.{left_rises}
-use Rattle.td_sttfile.proofs.scans.BlockScan.new.Goals as goal
+use Rattle.td_sttfile.proofs.scans.FileScan.new.Goals as goal
 
 pub invariant_of-result : goal.invariant_of-result
 invariant_of-result g c = record {

@@ -3,7 +3,7 @@ use Rattle.std.specs.Prelude.{IfSome}
 use Rattle.td_datafile.specs.declared.format.Entry.{Entry}
 use Rattle.td_datafile.specs.Scanning.{Scan, want_of, bytes_left, left_of, Keeps, IsSound}
 use Rattle.td_datafile.proofs.States.{same_left, same_open, filled, popped, gives_next, next_values, next_sound}
-use Rattle.td_datafile.proofs.scans.BlockScan.take.Goals as goal
+use Rattle.td_datafile.proofs.scans.FileScan.take.Goals as goal
 
 pub invariant_of-self-2 : goal.invariant_of-self-2
 invariant_of-self-2 g c =

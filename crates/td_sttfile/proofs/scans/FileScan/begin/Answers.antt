@@ -1,9 +1,9 @@
 use Rattle.std.proofs.Common.{Bool, true, false, Err, sym, ap, subst, ◌∙◌}
 use Rattle.std.proofs.lemmas.Result.{err_from_is_err_and}
 use Rattle.td_layer.specs.Scans.{HasScanCause}
-use Rattle.td_datafile.specs.Scanning.{Scan, want_of, left_of, damaged_of}
-use Rattle.td_datafile.proofs.States.{left_rises, spot_of, opened_left, opened_is, same_order, has_cause, opening_fault}
-use Rattle.td_datafile.proofs.scans.BlockScan.begin.Goals as goal
+use Rattle.td_sttfile.specs.Scanning.{Scan, want_of, left_of, damaged_of}
+use Rattle.td_sttfile.proofs.States.{left_rises, spot_of, opened_left, opened_is, same_order, has_cause, opening_fault}
+use Rattle.td_sttfile.proofs.scans.FileScan.begin.Goals as goal
 
 pub returns-in_err-opening-clause-cause : goal.returns-in_err-opening-clause-cause
 returns-in_err-opening-clause-cause g c =
@@ -23,16 +23,16 @@ invariant_of-self-2 g c =
     let now = g.F.FileBytes.bytes c.opening_at.new.file in
     let rows = c.self.inside.rows in
     let o = c.in_ok-opening.opening in
+    let at = c.in_ok-opening.at in
     let same = c.in_ok-opening.ensures.file.bytes_are in
     let none = c.self.invariant.fresh c.if-self.false in
-    let left = opened_left want told now c.self.inside.entries rows rows c.self.inside.spot o same none c.in_ok-opening.ensures.read in
+    let left = opened_left want told now rows rows c.self.inside.spot o at same none c.in_ok-opening.ensures.read in
     record {
       ahead = c.in_ok-opening.ensures.ahead;
-      order = same_order (left_of want told false c.self.inside.entries rows c.self.inside.spot) (left_of want now true o.entries rows (spot_of o)) left (left_rises want told c.self.inside.entries rows c.self.inside.spot);
+      order = same_order (left_of want told false rows c.self.inside.spot) (left_of want now true rows (spot_of o at)) left (left_rises want told rows c.self.inside.spot);
       values = c.self.invariant.values;
       fresh = λ e. none;
-      room = c.in_ok-opening.ensures.room;
-      opened = λ e. opened_is want told now o same c.in_ok-opening.ensures.read;
+      opened = λ e. opened_is want told now o at same c.in_ok-opening.ensures.read;
     }
 
 pub returns-clause-left : goal.returns-clause-left
@@ -41,6 +41,6 @@ returns-clause-left g c =
     let told = g.F.FileBytes.bytes c.self.inside.file in
     let now = g.F.FileBytes.bytes c.opening_at.new.file in
     let rows = c.self.inside.rows in
-    opened_left want told now c.self.inside.entries rows rows c.self.inside.spot c.in_ok-opening.opening c.in_ok-opening.ensures.file.bytes_are (c.self.invariant.fresh c.if-self.false) c.in_ok-opening.ensures.read
-    ∙ ap (λ (b : Bool). left_of want told b c.self.inside.entries rows c.self.inside.spot) (sym c.if-self.false)
+    opened_left want told now rows rows c.self.inside.spot c.in_ok-opening.opening c.in_ok-opening.at c.in_ok-opening.ensures.file.bytes_are (c.self.invariant.fresh c.if-self.false) c.in_ok-opening.ensures.read
+    ∙ ap (λ (b : Bool). left_of want told b rows c.self.inside.spot) (sym c.if-self.false)
     ∙ ap (λ (s : Scan). s.left) c.self.view_is

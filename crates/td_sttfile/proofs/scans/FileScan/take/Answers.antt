@@ -1,7 +1,7 @@
 use Rattle.std.proofs.Common.{◌≡◌, ℕ, Bool, true, List, Option, Ok, sym, ap, subst, ◌∙◌}
 use Rattle.td_sttfile.specs.Scanning.{Scan, want_of, left_of, IsSound}
 use Rattle.td_sttfile.proofs.States.{same_left, same_open, filled, popped, gives_next, next_values, next_sound}
-use Rattle.td_sttfile.proofs.scans.BlockScan.take.Goals as goal
+use Rattle.td_sttfile.proofs.scans.FileScan.take.Goals as goal
 
 pub invariant_of-self-2 : goal.invariant_of-self-2
 invariant_of-self-2 g c =
