@@ -1,22 +1,39 @@
--- Pairs around a pair e, in a list that rises.
-use Rattle.std.proofs.Common.{◌≡◌, suc, ◌+◌, ◌≤◌, cond, List, [], ◌∷◌, ◌++◌, length, Some, None, refl, sym, ap, ◌∙◌, subst, append_assoc, arith}
+-- Pairs on both sides of a key, in a list that rises.
+use Rattle.std.proofs.Common.{◌≡◌, ◌⊎◌, inl, inr, suc, ◌+◌, ◌<◌, ◌≤◌, true, cond, List, [], ◌∷◌, ◌++◌, length, Some, None, refl, sym, ap, ◌∙◌, subst, arith}
 use Rattle.std.specs.Cmp.{IsTotalOrder}
-use Rattle.std.specs.Ordering.{is_eq, match_ordering, ordering_reverse}
+use Rattle.std.specs.Ordering.{is_eq, is_le, match_ordering, ordering_reverse}
 use Rattle.std.specs.Map.{lookup}
 use Rattle.std.specs.BTreeMap.{insert_entry, is_at}
 use Rattle.std.specs.declared.cmp.Ordering.{Ordering}
 use Rattle.std.specs.declared.cmp.Ordering.TheVariants.{Less, Equal, Greater}
 use Rattle.td_layer.specs.Keys.{AllAfter, RisesBy}
+use Rattle.td_memtree.specs.Parts.{AllBefore, AllFrom, IsFirst}
 
 turned : {K : Type 0} {R : K → K → Ordering} (o : IsTotalOrder R) (x y : K) {r : Ordering} → R y x ≡ r → R x y ≡ ordering_reverse r
 turned o x y h = o.antisymm x y ∙ ap ordering_reverse h
 
-module _ {K X : Type 0} (R : K → K → Ordering) where
-  -- each of these pairs has a key before this one
-  abbrev pub AllBefore : K → List (K × X) → Type 0
-  AllBefore k [] = Unit {0}
-  AllBefore k (e ∷ es) = (R k e.0 ≡ Greater) × AllBefore k es
+module _ {K : Type 0} (R : K → K → Ordering) (o : IsTotalOrder R) where
+  -- a key before one that isn't after x is before x
+  less_from : (k s x : K) → R k s ≡ Less → is_le (R s x) ≡ true → R k x ≡ Less
+  less_from k s x h i = by (R s x) refl i
+    where
+      by : (r : Ordering) → R s x ≡ r → is_le r ≡ true → R k x ≡ Less
+      by Less e i = o.trans k s x h e
+      by Equal e i = turned o k x (sym (o.congr s x k e) ∙ turned o s k h)
+      by Greater e i = cc
 
+  not_before : (k s : K) (r : Ordering) → R k s ≡ r → (r ≡ Equal) ⊎ (r ≡ Greater) → is_le (R s k) ≡ true
+  not_before k s r e h = elim h [ inl i ↦ ap is_le (turned o s k (e ∙ i)) | inr i ↦ ap is_le (turned o s k (e ∙ i)) ]
+
+  same_self : (k : K) → R k k ≡ Equal
+  same_self k = by (R k k) (o.antisymm k k)
+    where
+      by : (r : Ordering) → r ≡ ordering_reverse r → r ≡ Equal
+      by Less h = cc
+      by Equal h = refl
+      by Greater h = cc
+
+module _ {K X : Type 0} (R : K → K → Ordering) where
   after_front : (k : K) (l m : List (K × X)) → AllAfter R k (l ++ m) → AllAfter R k l
   after_front k [] m a = tt
   after_front k (x ∷ l) m a = (a.0, after_front k l m a.1)
@@ -24,6 +41,10 @@ module _ {K X : Type 0} (R : K → K → Ordering) where
   after_back : (k : K) (l m : List (K × X)) → AllAfter R k (l ++ m) → AllAfter R k m
   after_back k [] m a = a
   after_back k (x ∷ l) m a = after_back k l m a.1
+
+  after_both : (k : K) (l m : List (K × X)) → AllAfter R k l → AllAfter R k m → AllAfter R k (l ++ m)
+  after_both k [] m a b = b
+  after_both k (x ∷ l) m a b = (a.0, after_both k l m a.1 b)
 
   pub rises_front : (l m : List (K × X)) → RisesBy R (l ++ m) → RisesBy R l
   rises_front [] m s = tt
@@ -33,33 +54,58 @@ module _ {K X : Type 0} (R : K → K → Ordering) where
   rises_back [] m s = s
   rises_back (x ∷ l) m s = rises_back l m s.1
 
-  -- without the last, or the first, of three parts
-  pub lean_front : (l : List (K × X)) (e : K × X) (m : List (K × X)) (f : K × X) (r : List (K × X)) → RisesBy R (l ++ e ∷ (m ++ f ∷ r)) → RisesBy R (l ++ e ∷ m)
-  lean_front l e m f r s = rises_front (l ++ e ∷ m) (f ∷ r) (subst (RisesBy R) (sym (append_assoc l (e ∷ m) (f ∷ r))) s)
+  pub before_front : (k : K) (l m : List (K × X)) → AllBefore R k (l ++ m) → AllBefore R k l
+  before_front k [] m a = tt
+  before_front k (x ∷ l) m a = (a.0, before_front k l m a.1)
 
-  pub lean_back : (l : List (K × X)) (e : K × X) (m : List (K × X)) (f : K × X) (r : List (K × X)) → RisesBy R ((l ++ e ∷ m) ++ f ∷ r) → RisesBy R (m ++ f ∷ r)
-  lean_back l e m f r s = (rises_back l (e ∷ (m ++ f ∷ r)) (subst (RisesBy R) (append_assoc l (e ∷ m) (f ∷ r)) s)).1
+  pub before_back : (k : K) (l m : List (K × X)) → AllBefore R k (l ++ m) → AllBefore R k m
+  before_back k [] m a = a
+  before_back k (x ∷ l) m a = before_back k l m a.1
 
-  -- what goes before the pairs from e on goes to its place in front of them
-  pub put_front : (l : List (K × X)) (e : K × X) (r : List (K × X)) (k : K) (v : X) → R k e.0 ≡ Less → insert_entry R (l ++ e ∷ r) k v ≡ insert_entry R l k v ++ e ∷ r
-  put_front [] e r k v h = rw h refl
-  put_front (x ∷ l) e r k v h = by (R k x.0) (put_front l e r k v h)
+  pub before_both : (k : K) (l m : List (K × X)) → AllBefore R k l → AllBefore R k m → AllBefore R k (l ++ m)
+  before_both k [] m a b = b
+  before_both k (x ∷ l) m a b = (a.0, before_both k l m a.1 b)
+
+  pub from_front : (k : K) (l m : List (K × X)) → AllFrom R k (l ++ m) → AllFrom R k l
+  from_front k [] m a = tt
+  from_front k (x ∷ l) m a = (a.0, from_front k l m a.1)
+
+  pub from_back : (k : K) (l m : List (K × X)) → AllFrom R k (l ++ m) → AllFrom R k m
+  from_back k [] m a = a
+  from_back k (x ∷ l) m a = from_back k l m a.1
+
+  pub from_both : (k : K) (l m : List (K × X)) → AllFrom R k l → AllFrom R k m → AllFrom R k (l ++ m)
+  from_both k [] m a b = b
+  from_both k (x ∷ l) m a b = (a.0, from_both k l m a.1 b)
+
+  pub from_after : (k : K) (m : List (K × X)) → AllAfter R k m → AllFrom R k m
+  from_after k [] a = tt
+  from_after k (x ∷ m) a = (rw a.0 refl, from_after k m a.1)
+
+  put_first : (m : List (K × X)) (k : K) (v : X) → AllAfter R k m → insert_entry R m k v ≡ (k, v) ∷ m
+  put_first [] k v a = refl
+  put_first (x ∷ m) k v a = rw a.0 refl
+
+  -- what goes before the pairs m goes to its place in front of them
+  pub put_front : (l m : List (K × X)) (k : K) (v : X) → AllAfter R k m → insert_entry R (l ++ m) k v ≡ insert_entry R l k v ++ m
+  put_front [] m k v a = put_first m k v a
+  put_front (x ∷ l) m k v a = by (R k x.0) (put_front l m k v a)
     where
-      by : (o : Ordering) → insert_entry R (l ++ e ∷ r) k v ≡ insert_entry R l k v ++ e ∷ r → match_ordering o ((k, v) ∷ x ∷ (l ++ e ∷ r)) ((x.0, v) ∷ (l ++ e ∷ r)) (x ∷ insert_entry R (l ++ e ∷ r) k v) ≡ match_ordering o ((k, v) ∷ x ∷ l) ((x.0, v) ∷ l) (x ∷ insert_entry R l k v) ++ e ∷ r
+      by : (o : Ordering) → insert_entry R (l ++ m) k v ≡ insert_entry R l k v ++ m → match_ordering o ((k, v) ∷ x ∷ (l ++ m)) ((x.0, v) ∷ (l ++ m)) (x ∷ insert_entry R (l ++ m) k v) ≡ match_ordering o ((k, v) ∷ x ∷ l) ((x.0, v) ∷ l) (x ∷ insert_entry R l k v) ++ m
       by Less i = refl
       by Equal i = refl
       by Greater i = ap (λ t. x ∷ t) i
 
-  -- what goes after these pairs goes to its place behind them
-  pub put_back : (l m : List (K × X)) (k : K) (v : X) → AllBefore k l → insert_entry R (l ++ m) k v ≡ l ++ insert_entry R m k v
+  -- what goes after the pairs l goes to its place behind them
+  pub put_back : (l m : List (K × X)) (k : K) (v : X) → AllBefore R k l → insert_entry R (l ++ m) k v ≡ l ++ insert_entry R m k v
   put_back [] m k v b = refl
   put_back (x ∷ l) m k v b = rw b.0 (ap (λ t. x ∷ t) (put_back l m k v b.1))
 
-  pub find_back : (l m : List (K × X)) (k : K) → AllBefore k l → lookup (is_at (R k)) (l ++ m) ≡ lookup (is_at (R k)) m
+  pub find_back : (l m : List (K × X)) (k : K) → AllBefore R k l → lookup (is_at (R k)) (l ++ m) ≡ lookup (is_at (R k)) m
   find_back [] m k b = refl
   find_back (x ∷ l) m k b = rw b.0 (find_back l m k b.1)
 
-  none_after : (m : List (K × X)) (k : K) → AllAfter R k m → lookup (is_at (R k)) m ≡ None
+  pub none_after : (m : List (K × X)) (k : K) → AllAfter R k m → lookup (is_at (R k)) m ≡ None
   none_after [] k a = refl
   none_after (x ∷ m) k a = rw a.0 (none_after m k a.1)
 
@@ -76,17 +122,27 @@ module _ {K X : Type 0} (R : K → K → Ordering) where
       by Equal i = (omega arith, omega arith)
       by Greater i = (omega (arith, i.0), omega (arith, i.1))
 
+  -- a pair that is put makes a list that has one
+  pub some_put : (l : List (K × X)) (k : K) (v : X) → 0 < length (insert_entry R l k v)
+  some_put [] k v = omega arith
+  some_put (x ∷ l) k v = by (R k x.0)
+    where
+      by : (o : Ordering) → 0 < length (match_ordering o ((k, v) ∷ x ∷ l) ((x.0, v) ∷ l) (x ∷ insert_entry R l k v))
+      by Less = omega arith
+      by Equal = omega arith
+      by Greater = omega arith
+
   module _ (o : IsTotalOrder R) where
     -- the pairs before e have keys before its key
-    pub before_middle : (l : List (K × X)) (e : K × X) (r : List (K × X)) → RisesBy R (l ++ e ∷ r) → AllBefore e.0 l
+    pub before_middle : (l : List (K × X)) (e : K × X) (r : List (K × X)) → RisesBy R (l ++ e ∷ r) → AllBefore R e.0 l
     before_middle [] e r s = tt
     before_middle (x ∷ l) e r s = (turned o e.0 x.0 (after_back x.0 l (e ∷ r) s.0).0, before_middle l e r s.1)
 
-    pub before_more : (k j : K) (l : List (K × X)) → R k j ≡ Greater → AllBefore j l → AllBefore k l
+    pub before_more : (k j : K) (l : List (K × X)) → R k j ≡ Greater → AllBefore R j l → AllBefore R k l
     before_more k j [] h b = tt
     before_more k j (x ∷ l) h b = (turned o k x.0 (o.trans x.0 j k (turned o x.0 j b.0) (turned o j k h)), before_more k j l h b.1)
 
-    pub before_same : (k j : K) (l : List (K × X)) → R k j ≡ Equal → AllBefore j l → AllBefore k l
+    before_same : (k j : K) (l : List (K × X)) → R k j ≡ Equal → AllBefore R j l → AllBefore R k l
     before_same k j [] h b = tt
     before_same k j (x ∷ l) h b = (o.congr k j x.0 h ∙ b.0, before_same k j l h b.1)
 
@@ -116,19 +172,56 @@ module _ {K X : Type 0} (R : K → K → Ordering) where
         by Equal h i = s
         by Greater h i = (after_put x.0 l k v (turned o x.0 k h) s.0, i)
 
-    -- by where a key stands to the key of e
-    module _ (l : List (K × X)) (e : K × X) (r : List (K × X)) (s : RisesBy R (l ++ e ∷ r)) (k : K) where
-      pub find_left : R k e.0 ≡ Less → lookup (is_at (R k)) (l ++ e ∷ r) ≡ lookup (is_at (R k)) l
-      find_left h = find_front l (e ∷ r) k (h, after_less k e.0 r h (rises_back l (e ∷ r) s).0)
+    pub after_from : (k s : K) (m : List (K × X)) → R k s ≡ Less → AllFrom R s m → AllAfter R k m
+    after_from k s [] h a = tt
+    after_from k s (x ∷ m) h a = (less_from R o k s x.0 h a.0, after_from k s m h a.1)
 
-      pub find_here : R k e.0 ≡ Equal → lookup (is_at (R k)) (l ++ e ∷ r) ≡ Some e.1
-      find_here h = find_back l (e ∷ r) k (before_same k e.0 l h (before_middle l e r s)) ∙ rw h refl
+    pub before_from : (k s : K) (l : List (K × X)) (r : Ordering) → R k s ≡ r → (r ≡ Equal) ⊎ (r ≡ Greater) → AllBefore R s l → AllBefore R k l
+    before_from k s l r e h b = elim h [ inl i ↦ before_same k s l (e ∙ i) b | inr i ↦ before_more k s l (e ∙ i) b ]
 
-      pub find_right : R k e.0 ≡ Greater → lookup (is_at (R k)) (l ++ e ∷ r) ≡ lookup (is_at (R k)) r
-      find_right h = find_back l (e ∷ r) k (before_more k e.0 l h (before_middle l e r s)) ∙ rw h refl
+    pub before_put : (s : K) (l : List (K × X)) (k : K) (v : X) → R k s ≡ Less → AllBefore R s l → AllBefore R s (insert_entry R l k v)
+    before_put s [] k v h b = (turned o s k h, tt)
+    before_put s (x ∷ l) k v h b = by (R k x.0) (before_put s l k v h b.1)
+      where
+        by : (r : Ordering) → AllBefore R s (insert_entry R l k v) → AllBefore R s (match_ordering r ((k, v) ∷ x ∷ l) ((x.0, v) ∷ l) (x ∷ insert_entry R l k v))
+        by Less i = (turned o s k h, b)
+        by Equal i = b
+        by Greater i = (b.0, i)
 
-      pub put_here : (v : X) → R k e.0 ≡ Equal → insert_entry R (l ++ e ∷ r) k v ≡ l ++ (e.0, v) ∷ r
-      put_here v h = put_back l (e ∷ r) k v (before_same k e.0 l h (before_middle l e r s)) ∙ rw h refl
+    pub from_put : (s : K) (l : List (K × X)) (k : K) (v : X) (r : Ordering) → R k s ≡ r → (r ≡ Equal) ⊎ (r ≡ Greater) → AllFrom R s l → AllFrom R s (insert_entry R l k v)
+    from_put s [] k v r e h b = (not_before R o k s r e h, tt)
+    from_put s (x ∷ l) k v r e h b = by (R k x.0) (from_put s l k v r e h b.1)
+      where
+        by : (q : Ordering) → AllFrom R s (insert_entry R l k v) → AllFrom R s (match_ordering q ((k, v) ∷ x ∷ l) ((x.0, v) ∷ l) (x ∷ insert_entry R l k v))
+        by Less i = (not_before R o k s r e h, b)
+        by Equal i = b
+        by Greater i = (b.0, i)
 
-      pub put_right : (v : X) → R k e.0 ≡ Greater → insert_entry R (l ++ e ∷ r) k v ≡ l ++ e ∷ insert_entry R r k v
-      put_right v h = put_back l (e ∷ r) k v (before_more k e.0 l h (before_middle l e r s)) ∙ rw h refl
+    pub rises_both : (s : K) (l m : List (K × X)) → RisesBy R l → RisesBy R m → AllBefore R s l → AllFrom R s m → RisesBy R (l ++ m)
+    rises_both s [] m a b c d = b
+    rises_both s (x ∷ l) m a b c d = (after_both x.0 l m a.0 (after_from x.0 s m (turned o x.0 s c.0) d), rises_both s l m a.1 b c.1 d)
+
+    -- where there are pairs from k on and before j, k is before j
+    between : (k j : K) (m : List (K × X)) → 0 < length m → AllFrom R k m → AllBefore R j m → R k j ≡ Less
+    between k j [] some a b = absurd (omega (arith, some))
+    between k j (x ∷ m) some a b = turned o k j (by (R k x.0) refl a.0)
+      where
+        by : (r : Ordering) → R k x.0 ≡ r → is_le r ≡ true → R j k ≡ Greater
+        by Less e i = turned o j k (o.trans k x.0 j e (turned o x.0 j b.0))
+        by Equal e i = turned o j k (o.congr k x.0 j e ∙ turned o x.0 j b.0)
+        by Greater e i = cc
+
+    pub before_over : (k j : K) (l m : List (K × X)) → 0 < length m → AllBefore R k l → AllFrom R k m → AllBefore R j m → AllBefore R j l
+    before_over k j l m some a b c = before_more j k l (turned o j k (between k j m some b c)) a
+
+    pub from_over : (k j : K) (m r : List (K × X)) → 0 < length m → AllFrom R k m → AllBefore R j m → AllFrom R j r → AllFrom R k r
+    from_over k j m r some a b c = from_after k r (after_from k j r (between k j m some a b) c)
+
+    -- the first key of some pairs parts those before from them
+    pub first_before : (k : K) (l m : List (K × X)) → 0 < length m → RisesBy R (l ++ m) → IsFirst k m → AllBefore R k l
+    first_before k l [] some s i = absurd (omega (arith, some))
+    first_before k l (x ∷ m) some s i = subst (λ j. AllBefore R j l) i (before_middle l x m s)
+
+    pub first_from : (k : K) (m : List (K × X)) → RisesBy R m → IsFirst k m → AllFrom R k m
+    first_from k [] s i = tt
+    first_from k (x ∷ m) s i = subst (λ j. AllFrom R j (x ∷ m)) i (ap is_le (same_self R o x.0), from_after x.0 m s.0)

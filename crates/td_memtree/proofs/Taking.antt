@@ -7,6 +7,7 @@ use Rattle.std.specs.BTreeMap.{is_at}
 use Rattle.std.specs.declared.cmp.Ordering.{Ordering}
 use Rattle.std.specs.declared.cmp.Ordering.TheVariants.{Less, Equal, Greater}
 use Rattle.td_layer.specs.Keys.{AllAfter, RisesBy}
+use Rattle.td_memtree.specs.Parts.{AllFrom}
 use Rattle.td_memtree.proofs.Around.{after_less}
 
 none_left : {X : Type 0} (p : X → Bool) (m : List X) → filter p m ≡ [] → filter (λ x. not (p x)) m ≡ m
@@ -31,16 +32,11 @@ same_test R o lo hi j k h =
     rw (a, o.congr j k hi h) refl
 
 module _ {K X : Type 0} (R : K → K → Ordering) (lo : K) where
-  -- each of these pairs has a key that isn't before lo
-  abbrev pub AllFrom : List (K × X) → Type 0
-  AllFrom [] = Unit {0}
-  AllFrom (e ∷ es) = (is_le (R lo e.0) ≡ true) × AllFrom es
-
-  from_filter : (m : List (K × X)) → AllFrom (filter (λ (e : K × X). is_le (R lo e.0)) m)
+  from_filter : (m : List (K × X)) → AllFrom R lo (filter (λ (e : K × X). is_le (R lo e.0)) m)
   from_filter [] = tt
   from_filter (x ∷ m) = by (is_le (R lo x.0)) refl (from_filter m)
     where
-      by : (b : Bool) → is_le (R lo x.0) ≡ b → AllFrom (filter (λ (e : K × X). is_le (R lo e.0)) m) → AllFrom (cond b (x ∷ filter (λ (e : K × X). is_le (R lo e.0)) m) (filter (λ (e : K × X). is_le (R lo e.0)) m))
+      by : (b : Bool) → is_le (R lo x.0) ≡ b → AllFrom R lo (filter (λ (e : K × X). is_le (R lo e.0)) m) → AllFrom R lo (cond b (x ∷ filter (λ (e : K × X). is_le (R lo e.0)) m) (filter (λ (e : K × X). is_le (R lo e.0)) m))
       by true h i = (h, i)
       by false h i = i
 
