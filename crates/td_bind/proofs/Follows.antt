@@ -1,5 +1,5 @@
 -- What a write is accepted as may come after the catalog, and no row of it lies before the edge.
-use Rattle.std.proofs.Common.{◌≡◌, ℕ, ℤ, pos, negsuc, suc, zero, ◌+◌, ◌-◌, ◌*◌, ◌/◌, max, ◌<◌, ◌≤◌, ◌==◌, nat_lt, nat_eq, map, zip, drop, get_or, slice_get, Bool, true, false, not, ◌&&◌, ◌||◌, cond, List, [], ◌∷◌, ◌++◌, length, Option, Some, None, is_some, is_none, Result, Ok, Err, refl, sym, ap, subst, ◌∙◌, arith, true≢false}
+use Rattle.std.proofs.Common.{◌≡◌, ℕ, ℤ, pos, negsuc, suc, zero, ◌+◌, ◌-◌, ◌*◌, ◌/◌, max, ◌<◌, ◌≤◌, ◌==◌, nat_lt, nat_eq, map, zip, drop, get_or, slice_get, Bool, true, false, not, ◌&&◌, ◌||◌, cond, List, [], ◌∷◌, length, Option, Some, None, is_some, is_none, Result, Ok, Err, refl, sym, ap, subst, ◌∙◌, arith, true≢false}
 use Rattle.std.specs.List.{AllByRecursion, AllZip, find, list_all, list_any}
 use Rattle.std.specs.Option.{option_map, option_map_or, option_and_then, option_or, unwrap_or}
 use Rattle.std.specs.Result.{IfOk}
@@ -37,8 +37,8 @@ use Rattle.td_verdict.specs.Causes.{when, first_cause, accepted_or}
 use Rattle.td_verdict.specs.Names.{is_table, is_stable, is_target, is_taken, is_stream, is_first, is_named, names_of, number_or_none, table_schema, stable_schema, stands_twice, lacks_time, column_named}
 use Rattle.td_verdict.specs.Sound.{IsFromEdge, IsPut, is_named_of}
 use Rattle.td_verdict.specs.Valid.{AreTags, IsSchema, IsValid}
-use Rattle.td_verdict.specs.Values.{has_width, number_at, text_at, text_fits, is_null, suits, fits}
-use Rattle.td_verdict.specs.Writes.{first_given, is_full, definition_cause, have_one_name, width_cause, count_cause, size_cause, make_stable_verdict, make_table_verdict, make_sub_cause, make_sub_verdict, tags_cause, stable_cause, tag_cells, mismatch_of, outside_of, first_column, is_mismatch, is_outside, first_place, time_at, time_from, is_before, lacks_first, listed, bad_bound, cut_of, refused_or, written_cause, list_cause, rows_cause, groups_cause, groups_verdict, chosen, put_of, insert_verdict, delete_cause, delete_verdict, bound_of, write_verdict}
+use Rattle.td_verdict.specs.Values.{is_column_kind, is_tag_kind, number_at, text_at, text_fits, is_null, suits, fits}
+use Rattle.td_verdict.specs.Writes.{first_given, is_full, definition_cause, have_one_name, kind_cause, count_cause, size_cause, make_stable_verdict, make_table_verdict, make_sub_cause, make_sub_verdict, tags_cause, stable_cause, tag_cells, mismatch_of, outside_of, first_column, is_mismatch, is_outside, first_place, time_at, time_from, is_before, lacks_first, listed, bad_bound, cut_of, refused_or, written_cause, list_cause, rows_cause, groups_cause, groups_verdict, chosen, put_of, insert_verdict, delete_cause, delete_verdict, bound_of, write_verdict}
 use Rattle.td_fields.proofs.Read.{text_kind}
 use Rattle.td_bind.specs.Answers.{verdict_of}
 use Rattle.td_bind.specs.Literals.{HasKinds}
@@ -114,20 +114,12 @@ passed {X} f (x ∷ xs) h = by (f x) (passed f xs) h
     by true rest k = rest k
     by false rest k = absurd (cc)
 
-wide : (columns : List Column) → width_cause columns ≡ None → list_all (λ (c : Column). has_width c.kind) columns ≡ true
-wide columns h = passed (λ (c : Column). has_width c.kind) columns (by (find (λ (c : Column). not (has_width c.kind)) columns) h)
+of_kinds : (test : Kind → Bool) (columns : List Column) → kind_cause test columns ≡ None → list_all (λ (c : Column). test c.kind) columns ≡ true
+of_kinds test columns h = passed (λ (c : Column). test c.kind) columns (by (find (λ (c : Column). not (test c.kind)) columns) h)
   where
     by : (o : Option Column) → option_map (λ (c : Column). cause.OutOfRange c.name) o ≡ None → o ≡ None
     by None k = refl
     by (Some c) k = absurd (cc)
-
-both_pass : (f : Column → Bool) (xs ys : List Column) → list_all f xs ≡ true → list_all f ys ≡ true → list_all f (xs ++ ys) ≡ true
-both_pass f [] ys h k = k
-both_pass f (x ∷ xs) ys h k = let parts = and_parts (f x) (list_all f xs) h in and_both (f x) (list_all f (xs ++ ys)) parts.0 (both_pass f xs ys parts.1 k)
-  where
-    and_both : (a b : Bool) → a ≡ true → b ≡ true → (a && b) ≡ true
-    and_both true b h k = k
-    and_both false b h k = h
 
 few : (n limit : ℕ) → nat_lt limit n ≡ false → n ≤ limit
 few n limit h = grind (arith, nat_tests)
@@ -152,7 +144,7 @@ module _ (name : List ℕ) (columns tags : List Column) (c : Catalog) (h : defin
   no_size = third_none name_cause time_cause (size_cause columns tags c) [] h
 
   no_count : count_cause columns tags c ≡ None
-  no_count = third_none (width_cause columns) (width_cause tags) (count_cause columns tags c) [] no_size
+  no_count = third_none (kind_cause is_column_kind columns) (kind_cause is_tag_kind tags) (count_cause columns tags c) [] no_size
 
   abbrev full_cause : Option Cause
   full_cause = when (is_full c) (cause.TooMany many.Tables TABLES)
@@ -171,7 +163,8 @@ module _ (name : List ℕ) (columns tags : List Column) (c : Catalog) (h : defin
   defined_schema = record {
     time = not_when (lacks_time columns) cause.NeedsTime (second_none name_cause time_cause (size_cause columns tags c ∷ []) h);
     apart = or_second (is_taken name c) (have_one_name columns tags) no_name;
-    widths = both_pass (λ (c : Column). has_width c.kind) columns tags (wide columns (first_none (width_cause columns) (width_cause tags ∷ count_cause columns tags c ∷ []) no_size)) (wide tags (second_none (width_cause columns) (width_cause tags) (count_cause columns tags c ∷ []) no_size));
+    column_kinds = of_kinds is_column_kind columns (first_none (kind_cause is_column_kind columns) (kind_cause is_tag_kind tags ∷ count_cause columns tags c ∷ []) no_size);
+    tag_kinds = of_kinds is_tag_kind tags (second_none (kind_cause is_column_kind columns) (kind_cause is_tag_kind tags) (count_cause columns tags c ∷ []) no_size);
     few_columns = few (length columns) COLUMNS (not_when (nat_lt COLUMNS (length columns)) (cause.TooMany many.Columns COLUMNS) (second_none full_cause columns_cause (few_cause ∷ []) no_count));
     few_tags = few (length tags) TAGS (not_when (nat_lt TAGS (length tags)) (cause.TooMany many.Tags TAGS) (third_none full_cause columns_cause few_cause [] no_count));
   }

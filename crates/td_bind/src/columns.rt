@@ -3,12 +3,12 @@ ghost use Rattle.std.specs.Prelude.{◌≡◌, not, IfOk};
 ghost use Rattle.std.specs.List.{find};
 ghost use Rattle.std.specs.Option.{option_copied};
 ghost use Rattle.td_model.specs.declared.catalog.Column.{Column};
-ghost use Rattle.td_verdict.specs.Values.{has_width};
-ghost use Rattle.td_verdict.specs.Writes.{have_one_name, width_cause, mismatch_of, outside_of};
+ghost use Rattle.td_verdict.specs.Values.{is_column_kind, is_tag_kind};
+ghost use Rattle.td_verdict.specs.Writes.{have_one_name, kind_cause, mismatch_of, outside_of};
 
 use crate::seen::stands_twice;
 use std::alloc::Global;
-use td_fields::{add_names, has_width};
+use td_fields::{add_names, is_column_kind, is_tag_kind};
 use td_layer::{Copied, NoMem, Seq};
 use td_model::{Cause, Column};
 
@@ -27,11 +27,18 @@ pub(crate) fn have_one_name(
     Ok(twice)
 }
 
-// The first column whose text has no byte or too many.
-fn first_bad_width(columns: &[Column]) -> Option<&Column>
-    ensures { option_copied result ≡ find (λ c. not (has_width c.kind)) columns.now }
+// The first column of a kind that no column can have.
+fn first_bad_column(columns: &[Column]) -> Option<&Column>
+    ensures { option_copied result ≡ find (λ c. not (is_column_kind c.kind)) columns.now }
 {
-    columns.iter().find(|column| !has_width(column.kind))
+    columns.iter().find(|column| !is_column_kind(column.kind))
+}
+
+// The first tag of a kind that no tag can have.
+fn first_bad_tag(tags: &[Column]) -> Option<&Column>
+    ensures { option_copied result ≡ find (λ c. not (is_tag_kind c.kind)) tags.now }
+{
+    tags.iter().find(|tag| !is_tag_kind(tag.kind))
 }
 
 // Out of range at a column, if there is one.
@@ -60,10 +67,18 @@ pub(crate) fn mismatch_of(found: Option<&Column>) -> Result<Option<Cause>, NoMem
     }
 }
 
-// Out of range at the first column whose text has no byte or too many.
-pub(crate) fn width_cause(columns: &[Column]) -> Result<Option<Cause>, NoMem>
-    ensures { IfOk result (λ cause. cause ≡ width_cause columns.now) }
+// Out of range at the first column of a kind that no column can have.
+pub(crate) fn column_kind_cause(columns: &[Column]) -> Result<Option<Cause>, NoMem>
+    ensures { IfOk result (λ cause. cause ≡ kind_cause is_column_kind columns.now) }
 {
-    let cause = outside_of(first_bad_width(columns))?;
+    let cause = outside_of(first_bad_column(columns))?;
+    Ok(cause)
+}
+
+// Out of range at the first tag of a kind that no tag can have.
+pub(crate) fn tag_kind_cause(tags: &[Column]) -> Result<Option<Cause>, NoMem>
+    ensures { IfOk result (λ cause. cause ≡ kind_cause is_tag_kind tags.now) }
+{
+    let cause = outside_of(first_bad_tag(tags))?;
     Ok(cause)
 }

@@ -4,7 +4,7 @@ ghost use Rattle.std.specs.Option.{option_copied};
 ghost use Rattle.td_verdict.specs.Writes.{count_cause, size_cause, definition_cause, make_stable_verdict, make_table_verdict};
 ghost use Rattle.td_bind.specs.Answers.{verdict_of};
 
-use crate::columns::{have_one_name, width_cause};
+use crate::columns::{column_kind_cause, have_one_name, tag_kind_cause};
 use crate::names::{is_full, is_taken};
 use std::alloc::Global;
 use td_catalog::Catalog;
@@ -38,7 +38,7 @@ fn count_cause(columns: &[Column], tags: &[Column], catalog: &Catalog) -> Option
     None
 }
 
-// Why the widths of texts or the counts of a definition are refused, if they are.
+// Why the kinds or the numbers of the columns and tags of a definition are refused, if they are.
 fn size_cause(
     columns: &[Column],
     tags: &[Column],
@@ -46,10 +46,10 @@ fn size_cause(
 ) -> Result<Option<Cause>, NoMem>
     ensures { IfOk result (λ cause. cause ≡ size_cause columns.now tags.now catalog.now.catalog) }
 {
-    if let Some(cause) = width_cause(columns)? {
+    if let Some(cause) = column_kind_cause(columns)? {
         return Ok(Some(cause));
     }
-    if let Some(cause) = width_cause(tags)? {
+    if let Some(cause) = tag_kind_cause(tags)? {
         return Ok(Some(cause));
     }
     Ok(count_cause(columns, tags, catalog))

@@ -11,4 +11,3 @@ pub mod Points
 pub mod Entering
 pub mod Readings
 pub mod Pinning
-pub mod NamedKinds

@@ -5,7 +5,6 @@ ghost use Rattle.td_model.specs.State.{step, empty_state};
 ghost use Rattle.td_outside.specs.Image.{Along, Becomes};
 ghost use Rattle.td_outside.specs.Logs.{with_log, after_sync};
 ghost use Rattle.td_tables.specs.Held.{CanTake};
-ghost use Rattle.td_tables.specs.Kinds.{NamesKinds};
 ghost use Rattle.td_wal.specs.Append.{next_gate};
 ghost use Rattle.td_wal.specs.Log.{opened, items_fit};
 ghost use Rattle.td_core.specs.declared.causes.OpenCause.TheVariants as causes;
@@ -97,11 +96,9 @@ fn read_logs<S: Store>(alloc: Global, store: &mut S) -> Result<LogBytes, OpenCau
 
 // ---- replaying
 
-// The entry of an item whose text is this statement, if it is accepted in the state. The columns that the statement
-// defines are of kinds that columns have, as those of each text are.
+// The entry of an item whose text is this statement, if it is accepted in the state.
 fn judge_item(tables: &Tables, item: &LogItem, stmt: &Stmt) -> Result<Option<Entry>, NoMem>
-    requires moment { item.now.moment ≤ LAST_TIMESTAMP }
-    requires kinds { NamesKinds stmt.now }
+    requires { item.now.moment ≤ LAST_TIMESTAMP }
     ensures accepted { IfOk result (λ entry. IfSome entry (IsAccepted stmt.now item.now tables.now.state)) }
     ensures takes { IfOk result (λ entry. IfSome entry (λ e. CanTake e.what tables.now.state)) }
     ensures refused { IfOk result (λ entry. IfNone entry (IsNotAccepted stmt.now item.now.moment tables.now.state)) }

@@ -50,7 +50,8 @@ fn accept(tables: &mut Tables, journal: &mut Journal, prepared: Prepared, rows: 
     ensures answer { result ≡ Submitted.Accepted (tables.old.state.version + 1) rows tables.new.state.edge }
     ensures state { tables.new.state ≡ step (tables.old.state ∷ []) prepared.entry }
     ensures journal { journal.new.items ≡ journal.old.items
-        ++ line_at (tables.old.state.version + 1) prepared.entry.session prepared.entry.ordinal prepared.entry.moment ∷ [] }
+        ++ line_at (tables.old.state.version + 1) prepared.entry.session prepared.entry.ordinal prepared.entry.moment
+        ∷ [] }
     ensures room { 1 ≤ journal.new.spare }
 {
     let version = tables.version() + 1;

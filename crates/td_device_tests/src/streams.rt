@@ -1,6 +1,7 @@
 //! A source, a sink, a clock and a place, at the calls that fail and at those that don't.
 use std::test::Fail;
 use td_layer::Seq;
+use td_limits::LAST_TIMESTAMP;
 use td_memdev::{MemPlace, MemSink, MemSource, MemStore, Ticks};
 use td_outside::{Clock, Failed, Place, Sink, Source};
 
@@ -41,9 +42,9 @@ fn a_sink_fails_where_its_list_or_its_room_says(rt: HostRuntime) -> Result<(), F
 #[test]
 fn a_clock_repeats_its_last_reading(rt: HostRuntime) -> Result<(), Fail> {
     let alloc = rt.alloc();
-    let readings = Seq::from_vec(alloc, vec![in alloc; 7, 5, 253402300799999]?);
+    let readings = Seq::from_vec(alloc, vec![in alloc; 7, 5, LAST_TIMESTAMP]?);
     let mut clock = Ticks::new(readings);
-    for reading in [7, 5, 253402300799999, 253402300799999] {
+    for reading in [7, 5, LAST_TIMESTAMP, LAST_TIMESTAMP] {
         assert_eq!(rt; clock.now(), reading);
     }
     let store = MemStore::new(alloc, Seq::new(alloc));

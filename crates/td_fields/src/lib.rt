@@ -21,7 +21,8 @@ mod titles;
 pub use fields::{TBNAME, comparisons, field_named, reads_one, shown_places};
 pub use literals::{Said, cell_said, number_cell, said_at};
 pub use names::{
-    add_names, column_named, has_width, is_first, is_time, lacks_time, place_of, same,
+    add_names, column_named, is_column_kind, is_first, is_tag_kind, is_time, lacks_time, place_of,
+    same,
 };
 pub use parts::part_of;
 pub use times::time_from;

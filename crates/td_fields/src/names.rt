@@ -3,7 +3,7 @@ ghost use Rattle.std.specs.Prelude.{◌≡◌, ◌++◌, OnOk};
 ghost use Rattle.std.specs.Option.{option_copied};
 ghost use Rattle.std.specs.Str.{bytes_eq};
 ghost use Rattle.td_verdict.specs.Names.{is_first, is_named, is_time, lacks_time, names_of, column_named};
-ghost use Rattle.td_verdict.specs.Values.{width_of, has_width};
+ghost use Rattle.td_verdict.specs.Values.{width_of, is_column_kind, is_tag_kind};
 ghost use Rattle.td_verdict.specs.Writes.{place_of};
 
 use td_layer::{Copied, Name, NoMem, Seq};
@@ -68,13 +68,20 @@ pub(crate) fn width_of(kind: Kind) -> Option<u16>
     }
 }
 
-/// Whether a text has 1 byte or more and not too many, where a kind is of texts.
-pub fn has_width(kind: Kind) -> bool
-    ensures { result ≡ has_width kind }
+/// Whether a column can have a kind: it has numbers of a fixed width that files can keep.
+pub fn is_column_kind(kind: Kind) -> bool
+    ensures { result ≡ is_column_kind kind }
 {
-    match width_of(kind) {
-        Some(width) => 1 <= width && u32::from(width) <= TAG_BYTES,
-        None => true,
+    !matches!(kind, Kind::Wide | Kind::Text(_))
+}
+
+/// Whether a tag can have a kind: a column can have it, or it is a text of 1 byte or more and not too many.
+pub fn is_tag_kind(kind: Kind) -> bool
+    ensures { result ≡ is_tag_kind kind }
+{
+    match kind {
+        Kind::Text(width) => 1 <= width && u32::from(width) <= TAG_BYTES,
+        _ => is_column_kind(kind),
     }
 }
 

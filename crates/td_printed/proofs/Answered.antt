@@ -27,7 +27,7 @@ use Rattle.td_verdict.specs.Queries.{reads_table, source_schema, has_unknown, mi
 use Rattle.td_verdict.specs.Refusals.{is_bad_selection, is_bad_window, has_bad_bounds}
 use Rattle.td_verdict.specs.Sound.{IsSound}
 use Rattle.td_verdict.specs.Windowed.{windows_of}
-use Rattle.td_printed.specs.Names.{AreWords, IsCounted}
+use Rattle.td_printed.specs.Names.{IsCounted}
 use Rattle.td_printed.proofs.Groups.{HasGoodRows, groups_good}
 use Rattle.td_printed.proofs.Lists.{all_mapped, none_of_first, none_of_others, none_when, second_none}
 use Rattle.td_printed.proofs.Rows.{all_flat, all_reversed, all_cut, row_answer_prints}
@@ -104,24 +104,24 @@ arranged_print (order.Desc name) rows h =
 
 -- ---- the answer
 
-groups_answer_prints : (q : Query) (s : State) → IsSound s → AreWords s.catalog → length s.rows < 2 ^ 62
+groups_answer_prints : (q : Query) (s : State) → IsSound s → length s.rows < 2 ^ 62
     → has_bad_bounds q.window ≡ false → AllByRecursion IsPrintableRow (groups_answer q s)
-groups_answer_prints q s sound words few bounds =
+groups_answer_prints q s sound few bounds =
     let columns : List Column = (source_schema q.source s.catalog).columns in
     let rows : List WinRow = flat_map (window_rows columns q) (groups q s) in
     all_mapped WindowPrints IsPrintableRow (λ (w : WinRow). w.cells) (cut q (arranged q.order rows)) (λ w h. h)
     (all_cut WindowPrints q (arranged q.order rows)
     (arranged_print q.order rows
     (all_flat (HasGoodRows (length s.rows)) WindowPrints (window_rows columns q) (groups q s)
-    (λ g h. group_prints columns q (length s.rows) g bounds few h) (groups_good q s sound words))))
+    (λ g h. group_prints columns q (length s.rows) g bounds few h) (groups_good q s sound))))
 
 few_rows : (s : State) → IsCounted s → length s.rows < 2 ^ 62
 few_rows s counted = omega (arith, counted.rows)
 
-pub answer_prints : (q : Query) (s : State) → IsSound s → AreWords s.catalog → IsCounted s
+pub answer_prints : (q : Query) (s : State) → IsSound s → IsCounted s
     → (let v : Verdict = Pass in v ≡ passes_or (query_cause q s.catalog)) → AllByRecursion IsPrintableRow (answer q s)
-answer_prints q s sound words counted pass =
+answer_prints q s sound counted pass =
     elim (is_row_query q) as (λ b. AllByRecursion IsPrintableRow (cond b (row_answer q s) (groups_answer q s))) [
-      | true ↦ row_answer_prints q s sound words
-      | false ↦ groups_answer_prints q s sound words (few_rows s counted) (bounds_fine q s.catalog pass)
+      | true ↦ row_answer_prints q s sound
+      | false ↦ groups_answer_prints q s sound (few_rows s counted) (bounds_fine q s.catalog pass)
     ]

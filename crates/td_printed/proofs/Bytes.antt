@@ -16,7 +16,7 @@ use Rattle.td_grammar.specs.Words.{word_of}
 use Rattle.td_model.specs.Printable.{is_word_byte as is_printed}
 use Rattle.td_printed.specs.Names.{IsName}
 
-both_true : (a b : Bool) → a ≡ true → b ≡ true → (a && b) ≡ true
+pub both_true : (a b : Bool) → a ≡ true → b ≡ true → (a && b) ≡ true
 both_true a b h i = ap (λ c. c && b) h ∙ i
 
 -- a byte of a word stays one in lower case
@@ -51,16 +51,22 @@ no_number : (b : Bool) → PLAIN_WORD ≤ cond b 1 2 → ⊥
 no_number true l = omega arith
 no_number false l = omega arith
 
-pub spelled_name : (token : Token) (text : List ℕ) → IsToken text token → PLAIN_WORD ≤ kind_of token
+-- what is so of each word is so of each token of such a kind
+pub for_words : (P : Token → Type 0) → ((name : List ℕ) → P (Word name)) → (token : Token)
+    → PLAIN_WORD ≤ kind_of token → P token
+for_words P f (Word name) l = f name
+for_words P f (Num n) l = absurd (no_number (is_bit n) l)
+for_words P f (Dur count unit) l = absurd (omega arith)
+for_words P f (Str content) l = absurd (omega arith)
+for_words P f (Sym b) l = absurd (omega (arith, below signs (b ∷ []) EQUAL refl (omega arith)))
+for_words P f Le l = absurd (omega arith)
+for_words P f Ge l = absurd (omega arith)
+for_words P f Ne l = absurd (omega arith)
+
+spelled_name : (token : Token) (text : List ℕ) → IsToken text token → PLAIN_WORD ≤ kind_of token
     → IsName (word_of token)
-spelled_name (Word name) text h l = subst IsName (sym h.1) (word_name text h.0)
-spelled_name (Num n) text h l = absurd (no_number (is_bit n) l)
-spelled_name (Dur count unit) text h l = absurd (omega arith)
-spelled_name (Str content) text h l = absurd (omega arith)
-spelled_name (Sym b) text h l = absurd (omega (arith, below signs (b ∷ []) EQUAL refl (omega arith)))
-spelled_name Le text h l = absurd (omega arith)
-spelled_name Ge text h l = absurd (omega arith)
-spelled_name Ne text h l = absurd (omega arith)
+spelled_name token text h l = for_words (λ t. IsToken text t → IsName (word_of t))
+    (λ name spells. subst IsName (sym spells.1) (word_name text spells.0)) token l h
 
 -- ---- sets of kinds of words
 

@@ -2,6 +2,7 @@
 use Rattle.std.proofs.Common.{ℕ, Bool, List, [], ◌∷◌, length, Option, Some, None, refl, arith}
 use Rattle.std.specs.Prelude.{IfSome, not, ◌&&◌, ◌||◌, nat_lt, ◌==◌, is_none}
 use Rattle.std.specs.List.{AllByRecursion, find, zip, list_any}
+use Rattle.td_cols.specs.declared.kinds.Kind.{Kind}
 use Rattle.td_cols.specs.declared.kinds.Kind.TheVariants.{Time}
 use Rattle.td_limits.specs.declared.limits.TheConstants.{COLUMNS, INSERT_ROWS, TABLES, TAGS}
 use Rattle.td_model.specs.declared.catalog.Column.{Column}
@@ -21,7 +22,7 @@ use Rattle.td_verdict.specs.Names.{is_taken, is_stable, is_target, stands_twice,
 use Rattle.td_verdict.specs.Fields.{fields, part_column}
 use Rattle.td_verdict.specs.Queries as queries
 use Rattle.td_verdict.specs.Refusals.{is_bad_selection, is_bad_window}
-use Rattle.td_verdict.specs.Values.{has_width, number_at, suits}
+use Rattle.td_verdict.specs.Values.{is_column_kind, is_tag_kind, number_at, suits}
 use Rattle.td_verdict.specs.Writes as writes
 use Rattle.td_printed.specs.Names.{IsName, AreNamed}
 use Rattle.td_printed.proofs.Lists.{if_mapped, if_either, if_found, if_given, all_zipped, all_given, if_when, if_first}
@@ -59,10 +60,10 @@ few_tables = omega arith
 
 -- ---- CREATE STABLE, CREATE TABLE
 
-width_prints : (columns : List Column) → AreNamed columns → Prints (writes.width_cause columns)
-width_prints columns h = if_mapped (λ (c : Column). IsName c.name) IsPrintableCause (λ c. cause.OutOfRange c.name)
-    (find (λ c. not (has_width c.kind)) columns) (λ c n. n.word)
-    (if_found (λ (c : Column). IsName c.name) (λ c. not (has_width c.kind)) columns h)
+kind_prints : (test : Kind → Bool) (columns : List Column) → AreNamed columns → Prints (writes.kind_cause test columns)
+kind_prints test columns h = if_mapped (λ (c : Column). IsName c.name) IsPrintableCause (λ c. cause.OutOfRange c.name)
+    (find (λ c. not (test c.kind)) columns) (λ c n. n.word)
+    (if_found (λ (c : Column). IsName c.name) (λ c. not (test c.kind)) columns h)
 
 count_prints : (columns tags : List Column) (c : Catalog) → Prints (writes.count_cause columns tags c)
 count_prints columns tags c = first_prints (
@@ -74,8 +75,8 @@ count_prints columns tags c = first_prints (
 size_prints : (columns tags : List Column) (c : Catalog) → AreNamed columns → AreNamed tags
     → Prints (writes.size_cause columns tags c)
 size_prints columns tags c h i = first_prints (
-    found (writes.width_cause columns) (width_prints columns h)
-    ∷ found (writes.width_cause tags) (width_prints tags i)
+    found (writes.kind_cause is_column_kind columns) (kind_prints is_column_kind columns h)
+    ∷ found (writes.kind_cause is_tag_kind tags) (kind_prints is_tag_kind tags i)
     ∷ found (writes.count_cause columns tags c) (count_prints columns tags c)
     ∷ [])
 

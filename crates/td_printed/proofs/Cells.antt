@@ -1,10 +1,10 @@
 -- Cells of rows can be printed: numbers of rows and tags lie in the ranges of their kinds.
-use Rattle.std.proofs.Common.{◌≡◌, ℕ, ◌≤◌, ℤ, pos, true, false, cond, ◌&&◌, List, [], ◌∷◌, drop, Option, Some, None, sym, subst}
+use Rattle.std.proofs.Common.{◌≡◌, ℕ, ◌≤◌, ℤ, pos, true, false, cond, ◌&&◌, List, [], ◌∷◌, Option, Some, None, sym, subst}
 use Rattle.std.specs.Prelude.{not, FitsSigned}
 use Rattle.std.specs.Int.{w128}
-use Rattle.std.specs.List.{AllByRecursion, AllZip}
+use Rattle.std.specs.List.{AllByRecursion}
 use Rattle.std.specs.Ordering.{int_eq}
-use Rattle.std.proofs.lemmas.Bool.{and_parts, or_parts}
+use Rattle.std.proofs.lemmas.Bool.{and_parts}
 use Rattle.std.proofs.lemmas.List.Elements.{All-weaker, recursion_from_All}
 use Rattle.td_cols.specs.declared.kinds.Kind.{Kind}
 use Rattle.td_cols.specs.Kinds.{is_in_range}
@@ -21,16 +21,13 @@ use Rattle.td_model.specs.declared.catalog.TableDef.{TableDef}
 use Rattle.td_model.specs.Catalog.{Catalog, stable_at, schema_or_none}
 use Rattle.td_model.specs.Printable.{IsPrintableCell, IsPrintableRow}
 use Rattle.td_model.specs.State.{State}
-use Rattle.td_parse.specs.Statements.{is_wide, any_wide}
 use Rattle.td_verdict.specs.Fields.{value_cell, value_cells, column_cells, row_cells}
-use Rattle.td_verdict.specs.Names.{table_schema}
-use Rattle.td_verdict.specs.Sound.{is_value_of, value_columns, IsRow, IsSound}
+use Rattle.td_verdict.specs.Sound.{IsRow, IsSound}
+use Rattle.td_verdict.proofs.ColumnValues.{row_values}
 use Rattle.td_verdict.specs.Valid.{suits_kind, AreTags, IsTable, IsTableBy, IsValid}
 use Rattle.td_verdict.specs.Values.{is_truth, is_text, number_cell}
-use Rattle.td_printed.specs.Names.{AreWords}
-use Rattle.td_printed.proofs.Numbers.{number_fits, time_fits, in_range_fits, column_number}
+use Rattle.td_printed.proofs.Numbers.{number_fits, time_fits, in_range_fits}
 use Rattle.td_printed.proofs.Says.{all_append}
-use Rattle.td_printed.proofs.Schemas.{table_named_schema}
 
 -- ---- the cells of a row
 
@@ -93,28 +90,7 @@ pub record IsGood (e : Key × Row) : Type 0 where
   pub time : e.0.ts ≤ LAST_TIMESTAMP
   pub values : AreColumnValues e.1.values
 
-value_holds : (k : Kind) (v : Value) → is_wide k ≡ false → is_value_of k v ≡ true → IsColumnValue v
-value_holds k value.Null built h = tt
-value_holds k (value.Num n) built h = column_number k n built h
-
-values_hold : (columns : List Column) (values : List Value) → any_wide columns ≡ false
-    → AllZip (λ (k : Column) (v : Value). is_value_of k.kind v ≡ true) columns values → AreColumnValues values
-values_hold columns [] built h = tt
-values_hold [] (v ∷ values) built h = absurd h
-values_hold (c ∷ columns) (v ∷ values) built h =
-    let p = or_parts (is_wide c.kind) (any_wide columns) built in
-    (value_holds c.kind v p.0 h.0, values_hold columns values p.1 h.1)
-
-built_behind : (columns : List Column) → any_wide columns ≡ false → any_wide (drop 1 columns) ≡ false
-built_behind [] h = h
-built_behind (c ∷ columns) h = (or_parts (is_wide c.kind) (any_wide columns) h).1
-
-row_good : (c : Catalog) (e : Key × Row) → AreWords c → IsRow c e → IsGood e
-row_good c e words h =
-    let built = built_behind (table_schema (Some e.0.table) c).columns
-    (table_named_schema c (Some e.0.table) words).types in
-    record { time = h.key.time; values = values_hold (value_columns e.0.table c) e.1.values built h.values }
-
-pub rows_good : (s : State) → IsSound s → AreWords s.catalog → AllByRecursion IsGood s.rows
-rows_good s sound words = recursion_from_All IsGood s.rows
-    (All-weaker (IsRow s.catalog) IsGood (λ e h. row_good s.catalog e words h) s.rows sound.rows)
+pub rows_good : (s : State) → IsSound s → AllByRecursion IsGood s.rows
+rows_good s sound = recursion_from_All IsGood s.rows
+    (All-weaker (IsRow s.catalog) IsGood
+    (λ e h. record { time = h.key.time; values = row_values s.catalog sound.catalog e h }) s.rows sound.rows)

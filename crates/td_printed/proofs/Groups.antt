@@ -27,7 +27,6 @@ use Rattle.td_verdict.specs.Plans.{Numbered, numbered, is_in_source, source_tabl
 use Rattle.td_verdict.specs.Queries.{source_of, source_schema}
 use Rattle.td_verdict.specs.Sound.{IsSound}
 use Rattle.td_verdict.specs.Writes.{place_of}
-use Rattle.td_printed.specs.Names.{AreWords}
 use Rattle.td_printed.proofs.Cells.{IsGood, rows_good}
 use Rattle.td_printed.proofs.Kept.{all_filtered}
 use Rattle.td_printed.proofs.Lists.{either_value, if_at, all_mapped, length_filtered, length_inserted}
@@ -216,9 +215,8 @@ each_few n (g ∷ gs) few h = (
   each_few n gs (omega (arith, few)) h.1,
 )
 
-pub groups_good : (q : Query) (s : State) → IsSound s → AreWords s.catalog
-    → AllByRecursion (HasGoodRows (length s.rows)) (groups q s)
-groups_good q s sound words =
+pub groups_good : (q : Query) (s : State) → IsSound s → AllByRecursion (HasGoodRows (length s.rows)) (groups q s)
+groups_good q s sound =
     let schema : Schema = source_schema q.source s.catalog in
     let ps : List Comparison = comparisons_of schema q.conds in
     let picked : Listed → Rows = picked_rows schema.columns ps s.rows in
@@ -227,7 +225,7 @@ groups_good q s sound words =
     let tables : List Listed = map (listed_table schema q) (source_tables q.source s.catalog) in
     let all = tables_good picked (first_groups one) tables
     (λ t. all_filtered IsGood (is_picked schema.columns ps t) (rows_of t.number s.rows)
-    (all_filtered IsGood (λ (e : Key × Row). e.0.table == t.number) s.rows (rows_good s sound words)))
+    (all_filtered IsGood (λ (e : Key × Row). e.0.table == t.number) s.rows (rows_good s sound)))
     (listed_print schema q (source_tables q.source s.catalog) (source_print q s sound)) (first_good one) in
     let own = sizes_from schema q keep picked s.rows
     (λ t. length_filtered (is_picked schema.columns ps t) (rows_of t.number s.rows)) 1 s.catalog.tables in

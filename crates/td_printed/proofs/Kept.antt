@@ -1,10 +1,7 @@
 -- Entries keep a catalog's names words.
-use Rattle.std.proofs.Common.{◌≡◌, ℕ, ◌+◌, ℤ, pos, Bool, true, false, cond, List, [], ◌∷◌, length, map, Option, Some, None, refl, sym, ◌∙◌, subst}
-use Rattle.std.specs.Prelude.{IfSome, int_lt, not, ◌==◌, filter}
-use Rattle.std.specs.Int.{int_min, int_max}
+use Rattle.std.proofs.Common.{◌≡◌, ℕ, ◌+◌, Bool, true, false, cond, List, [], ◌∷◌, Option, Some, None, refl, sym, ◌∙◌, subst}
+use Rattle.std.specs.Prelude.{IfSome, not, ◌==◌, filter}
 use Rattle.std.specs.List.{AllByRecursion}
-use Rattle.std.proofs.lemmas.Bool.{or_parts}
-use Rattle.td_limits.specs.declared.limits.TheConstants.{LAST_TIMESTAMP}
 use Rattle.td_model.specs.declared.catalog.Column.{Column}
 use Rattle.td_model.specs.declared.catalog.StreamEntry.{StreamEntry}
 use Rattle.td_model.specs.declared.history.Put.{Put}
@@ -12,102 +9,63 @@ use Rattle.td_model.specs.declared.history.What.{What}
 use Rattle.td_model.specs.declared.history.What.TheVariants as what
 use Rattle.td_model.specs.declared.history.Verdict.{Verdict}
 use Rattle.td_model.specs.declared.history.Verdict.TheVariants.{Accept, Pass, Refuse}
-use Rattle.td_model.specs.declared.language.Lit.{Lit}
 use Rattle.td_model.specs.declared.language.Stmt.{Stmt}
 use Rattle.td_model.specs.declared.language.Stmt.TheVariants as stmt
 use Rattle.td_model.specs.declared.report.Cause.{Cause}
 use Rattle.td_model.specs.Catalog.{Catalog, table_at, table_named}
 use Rattle.td_model.specs.State.{State, parent_of, latest_raised, row_put, put_one, put_all, effect}
-use Rattle.td_parse.specs.Statements.{any_wide, any_wide_tag}
-use Rattle.td_verdict.specs.Causes.{accepted_or, first_cause}
-use Rattle.td_verdict.specs.Names.{number_or_none, table_schema}
+use Rattle.td_verdict.specs.Names.{table_schema}
 use Rattle.td_verdict.specs.Queries.{passes_or, query_cause}
 use Rattle.td_verdict.specs.Writes as writes
 use Rattle.td_verdict.specs.Writes.{refused_or, cut_between, time_from, write_verdict}
 use Rattle.td_told.specs.Verdict.{verdict, closed_cause}
 use Rattle.td_told.specs.Turn.{End, by_verdict, starved, halted, Judged, state_then}
 use Rattle.td_printed.specs.Names.{IsName, AreNamed, StreamHasWords, HasWords, AreWords}
+use Rattle.td_printed.proofs.Accepted.{Accepts, accepted, refused, insert_accepted, delete_accepted}
 use Rattle.td_printed.proofs.Says.{all_append}
 
 -- ---- what an entry names
 
 abbrev pub WhatHasWords : What → Type 0
-WhatHasWords (what.MakeStable name schema) =
-    IsName name × AreNamed schema.columns × AreNamed schema.tags × (any_wide schema.columns ≡ false)
-WhatHasWords (what.MakeTable name columns) = IsName name × AreNamed columns × (any_wide columns ≡ false)
+WhatHasWords (what.MakeStable name schema) = IsName name × AreNamed schema.columns × AreNamed schema.tags
+WhatHasWords (what.MakeTable name columns) = IsName name × AreNamed columns
 WhatHasWords (what.MakeSub name stable tags) = IsName name
 WhatHasWords (what.MakeStream def) = StreamHasWords def
 WhatHasWords _ = Unit {0}
 
 abbrev pub AcceptsWords : Verdict → Type 0
-AcceptsWords (Accept w rows) = WhatHasWords w
-AcceptsWords Pass = Unit {0}
-AcceptsWords (Refuse cause) = Unit {0}
-
-accepted : (why : Option Cause) (w : What) (rows : ℕ) → WhatHasWords w → AcceptsWords (accepted_or why w rows)
-accepted None w rows h = h
-accepted (Some cause) w rows h = tt
-
-refused : (why : Option Cause) (v : Verdict) → AcceptsWords v → AcceptsWords (refused_or why v)
-refused None v h = h
-refused (Some cause) v h = tt
+AcceptsWords v = Accepts WhatHasWords v
 
 passed : (why : Option Cause) → AcceptsWords (passes_or why)
 passed None = tt
 passed (Some cause) = tt
 
 stable_accepted : (name : List ℕ) (columns : List Column) (tags : Option (List Column)) (c : Catalog) → IsName name
-    → AreNamed columns → IfSome tags AreNamed → any_wide columns ≡ false
-    → AcceptsWords (writes.make_stable_verdict name columns tags c)
-stable_accepted name columns None c n m k types = tt
-stable_accepted name columns (Some tags) c n m k types = accepted (writes.definition_cause name columns tags c) _ 0
-    (n, m, k, types)
-
-insert_accepted : (table : List ℕ) (columns : List Column) (names : Option (List (List ℕ))) (groups : List (List Lit))
-    (edge moment : ℕ) (c : Catalog) → AcceptsWords (writes.insert_in table columns names groups edge moment c)
-insert_accepted table columns names groups edge moment c =
-    let n = number_or_none (table_named table c) in
-    let places = writes.chosen columns names in
-    refused (first_cause (writes.written_cause table c ∷ writes.list_cause columns names ∷ []))
-    (writes.groups_verdict n columns places groups edge moment)
-    (accepted (writes.groups_cause columns places groups edge moment)
-    (what.Put (map (writes.put_of n columns places moment) groups)) (length groups) tt)
-
-cut_names_none : (table : ℕ) (lo hi : ℤ) → WhatHasWords (cut_between table lo hi)
-cut_names_none table lo hi = elim (int_lt hi lo) as
-    (λ b. WhatHasWords (cond b (what.Cut table 1 0) (what.Cut table (time_from lo) (time_from hi))))
-    [ true ↦ tt | false ↦ tt ]
-
-delete_accepted : (table : List ℕ) (columns : List Column) (column : List ℕ) (lo hi : Lit) (moment : ℕ) (c : Catalog)
-    → AcceptsWords (writes.delete_in table columns column lo hi moment c)
-delete_accepted table columns column lo hi moment c =
-    let n = number_or_none (table_named table c) in
-    accepted (writes.delete_cause table columns column lo hi moment c)
-    (writes.cut_of n (writes.bound_of moment lo) (writes.bound_of moment hi)) 0
-    (cut_names_none n (int_max (writes.bound_of moment lo) (pos 0))
-    (int_min (writes.bound_of moment hi) (pos LAST_TIMESTAMP)))
+    → AreNamed columns → IfSome tags AreNamed → AcceptsWords (writes.make_stable_verdict name columns tags c)
+stable_accepted name columns None c n m k = tt
+stable_accepted name columns (Some tags) c n m k =
+    accepted WhatHasWords (writes.definition_cause name columns tags c) _ 0 (n, m, k)
 
 pub accepts_words : (q : Stmt) (s : State) (cursors : List (List ℕ)) (moment : ℕ) → HasWords q
     → AcceptsWords (verdict q s cursors moment)
 accepts_words (stmt.Wrong cause) s cursors moment h = tt
-accepts_words (stmt.MakeStable name columns tags) s cursors moment h = refused (closed_cause s) _
-    (stable_accepted name columns tags s.catalog h.names.0 h.names.1 h.names.2
-    (or_parts (any_wide columns) (any_wide_tag tags) h.types).0)
-accepts_words (stmt.MakeTable name columns) s cursors moment h = refused (closed_cause s) _
-    (accepted (writes.definition_cause name columns [] s.catalog) (what.MakeTable name columns) 0
-    (h.names.0, h.names.1, h.types))
-accepts_words (stmt.MakeSub name stable tags) s cursors moment h = refused (closed_cause s)
-    (write_verdict (stmt.MakeSub name stable tags) s.catalog s.edge moment) (accepted _ _ 0 h.names.0)
-accepts_words (stmt.Insert table columns rows) s cursors moment h = refused (closed_cause s) _
-    (insert_accepted table (table_schema (table_named table s.catalog) s.catalog).columns columns rows s.edge moment
-    s.catalog)
-accepts_words (stmt.Delete table column lo hi) s cursors moment h = refused (closed_cause s) _
-    (delete_accepted table (table_schema (table_named table s.catalog) s.catalog).columns column lo hi moment
-    s.catalog)
+accepts_words (stmt.MakeStable name columns tags) s cursors moment h = refused WhatHasWords (closed_cause s) _
+    (stable_accepted name columns tags s.catalog h.0 h.1 h.2)
+accepts_words (stmt.MakeTable name columns) s cursors moment h = refused WhatHasWords (closed_cause s) _
+    (accepted WhatHasWords (writes.definition_cause name columns [] s.catalog) (what.MakeTable name columns) 0 h)
+accepts_words (stmt.MakeSub name stable tags) s cursors moment h = refused WhatHasWords (closed_cause s)
+    (write_verdict (stmt.MakeSub name stable tags) s.catalog s.edge moment) (accepted WhatHasWords _ _ 0 h.0)
+accepts_words (stmt.Insert table columns rows) s cursors moment h = refused WhatHasWords (closed_cause s) _
+    (insert_accepted WhatHasWords (λ _. tt) table (table_schema (table_named table s.catalog) s.catalog).columns columns
+    rows s.edge moment s.catalog)
+accepts_words (stmt.Delete table column lo hi) s cursors moment h = refused WhatHasWords (closed_cause s) _
+    (delete_accepted WhatHasWords (λ _ _ _. tt) table (table_schema (table_named table s.catalog) s.catalog).columns
+    column lo hi moment s.catalog)
 accepts_words (stmt.MakeStream def) s cursors moment h = tt
-accepts_words (stmt.DropStream name) s cursors moment h = refused (closed_cause s)
-    (writes.drop_stream_verdict name s.catalog) (accepted _ _ 0 tt)
-accepts_words stmt.Trim s cursors moment h = refused (closed_cause s) (writes.trim_verdict s.edge moment) tt
+accepts_words (stmt.DropStream name) s cursors moment h = refused WhatHasWords (closed_cause s)
+    (writes.drop_stream_verdict name s.catalog) (accepted WhatHasWords _ _ 0 tt)
+accepts_words stmt.Trim s cursors moment h = refused WhatHasWords (closed_cause s)
+    (writes.trim_verdict s.edge moment) tt
 accepts_words (stmt.Select query) s cursors moment h = passed (query_cause query s.catalog)
 accepts_words (stmt.OpenCursor cursor query) s cursors moment h = tt
 accepts_words (stmt.Fetch cursor rows) s cursors moment h = tt
@@ -123,7 +81,7 @@ raised_catalog : (parent : Option ℕ) (p : Put) (s : State) → (latest_raised 
 raised_catalog None p s = refl
 raised_catalog (Some stable) p s = refl
 
-puts_catalog : (ps : List Put) (s : State) → (put_all ps s).catalog ≡ s.catalog
+pub puts_catalog : (ps : List Put) (s : State) → (put_all ps s).catalog ≡ s.catalog
 puts_catalog [] s = refl
 puts_catalog (p ∷ ps) s = puts_catalog ps (put_one p s) ∙ raised_catalog (parent_of (table_at p.key.table s.catalog))
     p (row_put p s)
@@ -141,8 +99,7 @@ effect_keeps : (past : List State) (w : What) (s : State) → WhatHasWords w →
     → AreWords (effect past w s).catalog
 effect_keeps past (what.MakeStable name schema) s h c =
     record {
-      stables = all_append _ s.catalog.stables _ c.stables
-          (record { name = h.0; columns = h.1; tags = h.2; types = h.3 }, tt);
+      stables = all_append _ s.catalog.stables _ c.stables (record { name = h.0; columns = h.1; tags = h.2 }, tt);
       tables = c.tables;
       streams = c.streams;
     }
@@ -150,13 +107,13 @@ effect_keeps past (what.MakeTable name columns) s h c =
     record {
       stables = c.stables;
       tables = all_append _ s.catalog.tables _ c.tables
-          (record { name = h.0; columns = h.1; types = h.2 }, tt);
+          (record { name = h.0; columns = h.1 }, tt);
       streams = c.streams;
     }
 effect_keeps past (what.MakeSub name stable tags) s h c =
     record {
       stables = c.stables;
-      tables = all_append _ s.catalog.tables _ c.tables (record { name = h; columns = tt; types = refl }, tt);
+      tables = all_append _ s.catalog.tables _ c.tables (record { name = h; columns = tt }, tt);
       streams = c.streams;
     }
 effect_keeps past (what.Put puts) s h c = subst AreWords (sym (puts_catalog puts s)) c

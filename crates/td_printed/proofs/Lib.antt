@@ -4,6 +4,9 @@ pub mod Queries
 pub mod Statements
 pub mod Places
 pub mod Texts
+pub mod ShortTokens
+pub mod ShortNames
+pub mod Accepted
 pub mod Kept
 pub mod Lists
 pub mod Schemas
@@ -21,3 +24,4 @@ pub mod Counted
 pub mod Histories
 pub mod Reports
 pub mod States
+pub mod HeadCatalogs

@@ -1,6 +1,6 @@
 -- Numbers that a column can hold, and that an answer's cells can have.
-use Rattle.std.proofs.Common.{◌≡◌, ℕ, ◌-◌, ◌^◌, ◌≤◌, ℤ, pos, negsuc, true, false, arith, refl}
-use Rattle.std.specs.Prelude.{neg_ℤ, ◌≤ℤ◌, ◌<ℤ◌, int_le, FitsSigned}
+use Rattle.std.proofs.Common.{◌≡◌, ℕ, ◌-◌, ◌^◌, ◌≤◌, ℤ, pos, negsuc, true, arith, refl}
+use Rattle.std.specs.Prelude.{neg_ℤ, ◌≤ℤ◌, int_le, FitsSigned}
 use Rattle.std.specs.Int.{w128}
 use Rattle.std.proofs.lemmas.Bool.{and_parts}
 use Rattle.std.proofs.lemmas.Bool.Decides.{nat_tests}
@@ -10,7 +10,6 @@ use Rattle.td_cols.specs.declared.kinds.Kind.TheVariants.{Bool as Truth, I8, I16
 use Rattle.td_cols.specs.Kinds.{kind_least, kind_most, is_in_range}
 use Rattle.td_layer.specs.Columns.{IsColumnNumber}
 use Rattle.td_limits.specs.declared.limits.TheConstants.{LAST_TIMESTAMP}
-use Rattle.td_parse.specs.Statements.{is_wide}
 
 -- ---- what an i128 has
 
@@ -53,38 +52,3 @@ in_range_fits k n h =
     let p = and_parts (int_le (kind_least k) n) (int_le n (kind_most k)) h in
     let w = kind_within k in
     fits_between (kind_least k) n (kind_most k) w.0 p.0 p.1 w.1
-
--- ---- what a column can hold
-
--- the numbers of a kind lie in 64 bits
-record IsNarrow (least most : ℤ) : Type 0 where
-  low : int_le (negsuc (2 ^ 63 - 1)) least ≡ true
-  high : int_le most (pos (2 ^ 64 - 1)) ≡ true
-
-narrow : (k : Kind) → is_wide k ≡ false → IsNarrow (kind_least k) (kind_most k)
-unfolding kind_least kind_most
-narrow Truth built = record { low = refl; high = refl }
-narrow I8 built = record { low = refl; high = refl }
-narrow I16 built = record { low = refl; high = refl }
-narrow I32 built = record { low = refl; high = refl }
-narrow I64 built = record { low = refl; high = refl }
-narrow U8 built = record { low = refl; high = refl }
-narrow U16 built = record { low = refl; high = refl }
-narrow U32 built = record { low = refl; high = refl }
-narrow U64 built = record { low = refl; high = refl }
-narrow Time built = record { low = refl; high = refl }
-narrow Wide built = absurd (cc)
-narrow (Text n) built = record { low = refl; high = refl }
-
-in_64_bits : (least most n : ℤ) → IsNarrow least most → int_le least n ≡ true → int_le n most ≡ true
-    → IsColumnNumber n
-in_64_bits least most n is low high =
-    let a : neg_ℤ (pos (2 ^ 63)) ≤ℤ n = grind (arith, ints, is.low, low) in
-    let b : n <ℤ pos (2 ^ 64) = grind (arith, ints, is.high, high) in
-    (a, b)
-
-pub column_number : (k : Kind) (n : ℤ) → is_wide k ≡ false → is_in_range k n ≡ true → IsColumnNumber n
-unfolding is_in_range
-column_number k n built h =
-    let p = and_parts (int_le (kind_least k) n) (int_le n (kind_most k)) h in
-    in_64_bits (kind_least k) (kind_most k) n (narrow k built) p.0 p.1

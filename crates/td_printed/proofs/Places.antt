@@ -1,6 +1,7 @@
 -- The place of the first failure of a text lies within it.
 use Rattle.std.proofs.Common.{◌≡◌, ℕ, ◌+◌, ◌≤◌, ◌==◌, Bool, true, false, cond, List, [], ◌∷◌, ◌++◌, length, inl, inr, refl, sym, ap, subst, ◌∙◌, arith}
 use Rattle.std.proofs.lemmas.List.{length-append}
+use Rattle.std.specs.List.{AllByRecursion}
 use Rattle.td_limits.specs.declared.limits.TheConstants.{STATEMENT_BYTES}
 use Rattle.td_lex.specs.declared.kinds.Spanned.{Spanned}
 use Rattle.td_lex.specs.Tokens.{Reads}
@@ -9,12 +10,12 @@ use Rattle.td_model.specs.declared.report.Cause.TheVariants.{Syntax, OptionNotBu
 use Rattle.td_model.specs.Printable.{IsPrintableCause}
 use Rattle.td_grammar.specs.declared.kinds.TheConstants.{NOT_BUILT}
 use Rattle.td_grammar.specs.Kinds.{kind_of}
-use Rattle.td_grammar.specs.Grammar.{all_real}
+use Rattle.td_grammar.specs.Grammar.{real}
 use Rattle.td_parse.specs.Statements.{lexemes, Fails}
 
 -- tokens that are read are each spelled by some text
 pub reads_real : (at : ℕ) (text : List ℕ) (ts : List Spanned) (rest : List ℕ) → Reads at text ts rest
-    → all_real (lexemes ts)
+    → AllByRecursion real (lexemes ts)
 reads_real at text [] rest h = tt
 reads_real at text (t ∷ ts) rest (gap, word, after, blank, parts, stands, place, end, more) =
     ((refl, word, stands.1), reads_real t.end after ts rest more)

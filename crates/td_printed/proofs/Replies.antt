@@ -27,7 +27,7 @@ use Rattle.td_verdict.specs.Writes as writes
 use Rattle.td_verdict.specs.Writes.{refused_or, cut_between, time_from, write_verdict}
 use Rattle.td_told.specs.Verdict.{verdict, halt_cause, closed_cause, header, answer}
 use Rattle.td_told.specs.Turn.{End, by_verdict, starved, halted, Accepts, Judged, accepted_reply, reply_of}
-use Rattle.td_printed.specs.Names.{AreNamed, HasNames, HasWords, AreWords, IsCounted}
+use Rattle.td_printed.specs.Names.{AreNamed, HasWords, AreWords, IsCounted}
 use Rattle.td_printed.proofs.Lists.{if_when, none_of_first, none_of_others, none_when}
 use Rattle.td_printed.proofs.Schemas.{table_named_schema, stable_named_schema, source_named_schema}
 use Rattle.td_printed.proofs.Causes.{Prints, definition_prints, make_sub_prints, target_prints, chosen_named, groups_print, delete_prints, query_prints}
@@ -143,7 +143,7 @@ risen_edge edge moment e m = omega arith
 
 -- ---- the verdict
 
-write_prints : (version : ℕ) (q : Stmt) (s : State) (moment : ℕ) → HasNames q → AreWords s.catalog → IsCounted s
+write_prints : (version : ℕ) (q : Stmt) (s : State) (moment : ℕ) → HasWords q → AreWords s.catalog → IsCounted s
     → IsCount moment → IsCount version → VerdictPrints version (write_verdict q s.catalog s.edge moment)
 write_prints version (stmt.MakeStable name columns tags) s moment h words counted m count = stable_prints version name
     columns tags s count h.1 h.2
@@ -173,13 +173,13 @@ write_prints version stmt.Trim s moment h words counted m count =
     (count, no_rows, (count, risen_edge s.edge moment counted.edge m))
 write_prints version _ s moment h words counted m count = tt
 
-entry_prints : (q : Stmt) (s : State) (moment : ℕ) → HasNames q → AreWords s.catalog → IsCounted s → IsCount moment
+entry_prints : (q : Stmt) (s : State) (moment : ℕ) → HasWords q → AreWords s.catalog → IsCounted s → IsCount moment
     → VerdictPrints (s.version + 1) (refused_or (closed_cause s) (write_verdict q s.catalog s.edge moment))
 entry_prints q s moment h words counted m = refused_prints (s.version + 1) (closed_cause s)
     (write_verdict q s.catalog s.edge moment) (closed_prints s counted)
     (λ takes. write_prints (s.version + 1) q s moment h words counted m (next_count s takes))
 
-pub verdict_prints : (q : Stmt) (s : State) (moment : ℕ) → HasNames q → AreWords s.catalog → IsCounted s
+pub verdict_prints : (q : Stmt) (s : State) (moment : ℕ) → HasWords q → AreWords s.catalog → IsCounted s
     → IsCount moment → VerdictPrints (s.version + 1) (verdict q s [] moment)
 verdict_prints (stmt.Wrong cause) s moment h words counted m = h
 verdict_prints (stmt.MakeStable name columns tags) s moment h words counted m =
@@ -202,14 +202,14 @@ verdict_prints _ s moment h words counted m = tt
 
 -- ---- the reply
 
-pub items_print : (q : Stmt) (s : State) → HasNames q → AreWords s.catalog → AllByRecursion IsItem (header q s)
+pub items_print : (q : Stmt) (s : State) → HasWords q → AreWords s.catalog → AllByRecursion IsItem (header q s)
 items_print (stmt.Select query) s h words = header_prints query s.catalog h words
 items_print _ s h words = tt
 
-pub rows_print : (q : Stmt) (s : State) (moment : ℕ) → AreWords s.catalog → IsSound s → IsCounted s
+pub rows_print : (q : Stmt) (s : State) (moment : ℕ) → IsSound s → IsCounted s
     → (let v : Verdict = Pass in v ≡ verdict q s [] moment) → AllByRecursion IsPrintableRow (answer q s)
-rows_print (stmt.Select query) s moment words sound counted pass = answer_prints query s sound words counted pass
-rows_print _ s moment words sound counted pass = tt
+rows_print (stmt.Select query) s moment sound counted pass = answer_prints query s sound counted pass
+rows_print _ s moment sound counted pass = tt
 
 halt_count : (version : ℕ) (v : Verdict) → Accepts v → VerdictPrints version v → IsCount version
 halt_count version (Accept w rows) accepts h = h.0
@@ -221,19 +221,19 @@ pub reply_prints : (q : Stmt) (s : State) (end : End) (moment : ℕ) → HasWord
     → IsPrintableReply (reply_of q end s)
 reply_prints q s (by_verdict (Accept w rows)) moment h words sound counted m few judged =
     let prints : VerdictPrints (s.version + 1) (Accept w rows) = subst (VerdictPrints (s.version + 1)) (sym judged)
-    (verdict_prints q s moment h.names words counted m) in prints.2
+    (verdict_prints q s moment h words counted m) in prints.2
 reply_prints q s (by_verdict Pass) moment h words sound counted m few judged =
     record {
       prefix = counted.version;
-      header = items_print q s h.names words;
-      rows = rows_print q s moment words sound counted judged;
+      header = items_print q s h words;
+      rows = rows_print q s moment sound counted judged;
       few = few;
     }
 reply_prints q s (by_verdict (Refuse cause)) moment h words sound counted m few judged = (
   counted.version,
   subst (VerdictPrints (s.version + 1)) (sym judged)
-      (verdict_prints q s moment h.names words counted m),
+      (verdict_prints q s moment h words counted m),
 )
 reply_prints q s starved moment h words sound counted m few judged = tt
 reply_prints q s halted moment h words sound counted m few judged = halt_count (s.version + 1) (verdict q s [] moment)
-    judged (verdict_prints q s moment h.names words counted m)
+    judged (verdict_prints q s moment h words counted m)

@@ -52,7 +52,7 @@ module _ (b : State) (h : List Entry) (journal : List JournalLine) (counts : All
       let s : State = at b h (version - 1) in
       let line = listed_counts journal (version - b.version - 1) e.line counts e.listed in (
         subst (VerdictPrints (s.version + 1)) e.accepted
-            (verdict_prints a.stmt s e.line.moment words.names (fit (version - 1)).words (fit (version - 1)).counted
+            (verdict_prints a.stmt s e.line.moment words (fit (version - 1)).words (fit (version - 1)).counted
             line.moment),
         subst IsCount e.version_is line.version,
       )
@@ -72,16 +72,16 @@ module _ (b : State) (h : List Entry) (journal : List JournalLine) (counts : All
       record {
         prefix = prefix_counts p is.1.is_prefix;
         header = subst (AllByRecursion IsItem) (sym is.2)
-            (items_print a.stmt s words.names (fit p).words);
+            (items_print a.stmt s words (fit p).words);
         rows = subst (AllByRecursion IsPrintableRow) (sym is.3)
-            (rows_print a.stmt s is.1.moment (fit p).words (sound p) (fit p).counted (sym is.1.judged));
+            (rows_print a.stmt s is.1.moment (sound p) (fit p).counted (sym is.1.judged));
         few = few;
       }
   reply_prints a (reply.Refused p cause) words few is =
       let s : State = at b h p in (
         prefix_counts p is.is_prefix,
         subst (VerdictPrints (s.version + 1)) is.judged
-            (verdict_prints a.stmt s is.moment words.names (fit p).words (fit p).counted
+            (verdict_prints a.stmt s is.moment words (fit p).words (fit p).counted
             (moment_counts is.moment is.most)),
       )
   reply_prints a (reply.StoreFaultHalt version) words few is =

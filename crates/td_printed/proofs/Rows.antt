@@ -24,7 +24,6 @@ use Rattle.td_verdict.specs.Sound.{IsSound}
 use Rattle.td_printed.proofs.Says.{all_append}
 use Rattle.td_printed.proofs.Kept.{all_filtered}
 use Rattle.td_printed.proofs.Lists.{all_mapped, either_value, if_at}
-use Rattle.td_printed.specs.Names.{AreWords}
 use Rattle.td_printed.proofs.Cells.{IsGood, row_prints, rows_good, tables_print}
 
 -- ---- lists
@@ -101,14 +100,14 @@ pub source_print : (q : Query) (s : State) → IsSound s → AllByRecursion Tags
 source_print q s sound = all_filtered TagsPrint (is_in_source (source_of q.source s.catalog)) (all_tables s.catalog)
     (numbered_print 1 s.catalog.tables (tables_print s.catalog sound.catalog))
 
-picked_print : (q : Query) (s : State) → IsSound s → AreWords s.catalog → AllByRecursion FoundPrints (picked q s)
-picked_print q s sound words =
+picked_print : (q : Query) (s : State) → IsSound s → AllByRecursion FoundPrints (picked q s)
+picked_print q s sound =
     let columns : List Column = (source_schema q.source s.catalog).columns in
     let ps : List Comparison = comparisons_of (source_schema q.source s.catalog) q.conds in
     let tables : List Numbered = source_tables q.source s.catalog in
     in_time_print [] (flat_map (found_in columns ps s.rows) tables) tt
     (all_flat TagsPrint FoundPrints (found_in columns ps s.rows) tables
-    (λ t h. found_print columns ps s.rows t (rows_good s sound words) h) (source_print q s sound))
+    (λ t h. found_print columns ps s.rows t (rows_good s sound) h) (source_print q s sound))
 
 -- ---- what is shown of them
 
@@ -124,12 +123,11 @@ ordered_print : (falls : Bool) (found : Found) → AllByRecursion FoundPrints fo
 ordered_print true found h = all_reversed FoundPrints found h
 ordered_print false found h = h
 
-pub row_answer_prints : (q : Query) (s : State) → IsSound s → AreWords s.catalog
-    → AllByRecursion IsPrintableRow (row_answer q s)
-row_answer_prints q s sound words =
+pub row_answer_prints : (q : Query) (s : State) → IsSound s → AllByRecursion IsPrintableRow (row_answer q s)
+row_answer_prints q s sound =
     let places : List ℕ = shown_places (reads_table q s.catalog) (source_schema q.source s.catalog) q in
     let rows : Found = ordered q.order (picked q s) in
     all_mapped FoundPrints IsPrintableRow (λ (e : Key × List Cell). shown places e.1) (cut q rows)
     (λ e h. shown_print places e.1 h)
     (all_cut FoundPrints q rows
-    (ordered_print (is_desc q.order) (picked q s) (picked_print q s sound words)))
+    (ordered_print (is_desc q.order) (picked q s) (picked_print q s sound)))

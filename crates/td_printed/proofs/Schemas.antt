@@ -1,12 +1,11 @@
 -- The columns and tags of a schema, in a catalog of words, have names.
-use Rattle.std.proofs.Common.{◌≡◌, ℕ, ◌-◌, false, List, Option, Some, None, refl}
+use Rattle.std.proofs.Common.{ℕ, ◌-◌, List, Option, Some, None}
 use Rattle.std.specs.Prelude.{IfSome}
 use Rattle.std.specs.Option.{option_map}
 use Rattle.td_model.specs.declared.catalog.Column.{Column}
 use Rattle.td_model.specs.declared.catalog.Schema.{Schema}
 use Rattle.td_model.specs.declared.catalog.StableDef.{StableDef}
 use Rattle.td_model.specs.Catalog.{Catalog, table_at, stable_at, table_named, stable_named, schema_of, schema_by, schema_or_none, no_schema}
-use Rattle.td_parse.specs.Statements.{any_wide}
 use Rattle.td_verdict.specs.Names.{table_schema, stable_schema, column_named, is_named}
 use Rattle.td_verdict.specs.Fields.{fields}
 use Rattle.td_verdict.specs.Queries.{source_by, source_schema, schema_from}
@@ -17,26 +16,25 @@ use Rattle.td_printed.proofs.Lists.{if_mapped, either_value, if_at, if_found}
 pub record SchemaHasWords (s : Schema) : Type 0 where
   pub columns : AreNamed s.columns
   pub tags : AreNamed s.tags
-  pub types : any_wide s.columns ≡ false
 
 none_named : SchemaHasWords no_schema
-none_named = record { columns = tt; tags = tt; types = refl }
+none_named = record { columns = tt; tags = tt }
 
 or_none_named : (o : Option StableDef) → IfSome o StableHasWords → SchemaHasWords (schema_or_none o)
 or_none_named None h = none_named
-or_none_named (Some s) h = record { columns = h.columns; tags = h.tags; types = h.types }
+or_none_named (Some s) h = record { columns = h.columns; tags = h.tags }
 
 by_named : (c : Catalog) (parent : Option ℕ) (columns : List Column) → AreWords c → AreNamed columns
-    → any_wide columns ≡ false → SchemaHasWords (schema_by c parent columns)
-by_named c None columns words h types = record { columns = h; tags = tt; types = types }
-by_named c (Some stable) columns words h types = or_none_named (stable_at stable c)
+    → SchemaHasWords (schema_by c parent columns)
+by_named c None columns words h = record { columns = h; tags = tt }
+by_named c (Some stable) columns words h = or_none_named (stable_at stable c)
     (if_at StableHasWords c.stables (stable - 1) words.stables)
 
 pub table_named_schema : (c : Catalog) (n : Option ℕ) → AreWords c → SchemaHasWords (table_schema n c)
 table_named_schema c None words = none_named
 table_named_schema c (Some n) words = either_value SchemaHasWords (option_map (schema_of c) (table_at n c)) no_schema
     (if_mapped TableHasWords SchemaHasWords (schema_of c) (table_at n c)
-    (λ t h. by_named c t.parent t.columns words h.columns h.types) (if_at TableHasWords c.tables (n - 1) words.tables))
+    (λ t h. by_named c t.parent t.columns words h.columns) (if_at TableHasWords c.tables (n - 1) words.tables))
     none_named
 
 pub stable_named_schema : (c : Catalog) (n : Option ℕ) → AreWords c → SchemaHasWords (stable_schema n c)
@@ -44,7 +42,7 @@ stable_named_schema c None words = none_named
 stable_named_schema c (Some n) words = either_value SchemaHasWords
     (option_map (λ (s : StableDef). s.schema) (stable_at n c)) no_schema
     (if_mapped StableHasWords SchemaHasWords (λ (s : StableDef). s.schema) (stable_at n c)
-    (λ s h. record { columns = h.columns; tags = h.tags; types = h.types })
+    (λ s h. record { columns = h.columns; tags = h.tags })
     (if_at StableHasWords c.stables (n - 1) words.stables))
     none_named
 

@@ -14,8 +14,9 @@ use Rattle.td_told.specs.Turn.{End, Judged, entry_at, reply_of, state_then}
 use Rattle.td_told.specs.Verdict.{verdict, answer}
 use Rattle.td_verdict.specs.Sound.{IsSound}
 use Rattle.td_printed.specs.Names.{HasWords, AreWords, IsCounted, IsPrintableState, HasCounts}
+use Rattle.td_printed.specs.Heads.{HasShortNames, FitsHead}
 
--- Each name in what is answered of a text is a word, and each type is one that is built.
+-- Each name in what is answered of a text is a word.
 abbrev pub NamesOfATextAreWords : Type 0
 NamesOfATextAreWords = (text : List ℕ) (answer : Stmt) → IsAnswer text answer → HasWords answer
 
@@ -56,3 +57,15 @@ ToldReportsArePrintable = (b : State) (readings : Option (List ℕ)) (script pri
     Told b readings script printed r → AllByRecursion (λ (a : Asked). HasWords a.stmt) script →
     AllByRecursion (λ (a : Asked). HasWords a.stmt) printed → IsSound b → AreWords b.catalog → IsCounted b →
     HasCounts r → IsPrintable r
+
+-- What is answered of a text gives what it makes short names, a supertable one tag or more where it says tags, and a
+-- subtable no text with a byte below 32.
+abbrev pub TextsFitHeads : Type 0
+TextsFitHeads = (text : List ℕ) (answer : Stmt) → IsAnswer text answer → HasShortNames answer
+
+-- The statement of a text, accepted in a state whose catalog has names and texts as a head asks, gives an entry that
+-- keeps the catalog so.
+abbrev pub EntriesFitHeads : Type 0
+EntriesFitHeads = (text : List ℕ) (q : Stmt) (s : State) (session ordinal moment : ℕ) (w : What) (rows : ℕ) →
+    IsAnswer text q → verdict q s [] moment ≡ Accept w rows → FitsHead s.catalog →
+    FitsHead (step (s ∷ []) (entry_at session ordinal moment w)).catalog

@@ -1,5 +1,5 @@
 -- Names that are words: those of a statement, and those that a catalog keeps; and numbers that a report can have.
-use Rattle.std.specs.Prelude.{◌≡◌, ℕ, ◌<◌, ◌≤◌, ◌*◌, min, false, List, length, IfSome}
+use Rattle.std.specs.Prelude.{ℕ, ◌<◌, ◌≤◌, ◌*◌, min, List, length, IfSome}
 use Rattle.std.specs.List.{AllByRecursion}
 use Rattle.td_limits.specs.declared.limits.TheConstants.{INSERT_ROWS, LAST_VERSION}
 use Rattle.td_model.specs.declared.catalog.Column.{Column}
@@ -27,7 +27,6 @@ use Rattle.td_model.specs.declared.report.Report.{Report}
 use Rattle.td_model.specs.Catalog.{Catalog}
 use Rattle.td_model.specs.Printable.{IsWord, IsCount, IsPrintableCause}
 use Rattle.td_model.specs.State.{State}
-use Rattle.td_parse.specs.Statements.{any_wide, has_type_not_built}
 use Rattle.td_verdict.specs.Sound.{IsSound}
 
 -- a word with one byte or more
@@ -84,29 +83,24 @@ pub record StreamHasWords (def : StreamDef) : Type 0 where
   pub query : QueryHasWords def.query
 
 -- Each name in a statement is a word. Of a text that is no statement, the cause can be printed.
-abbrev pub HasNames : Stmt → Type 0
-HasNames (stmt.Wrong cause) = IsPrintableCause cause
-HasNames (stmt.MakeStable name columns tags) = IsName name × AreNamed columns × IfSome tags AreNamed
-HasNames (stmt.MakeTable name columns) = IsName name × AreNamed columns
-HasNames (stmt.MakeSub name stable tags) = IsName name × IsName stable
-HasNames (stmt.Insert table columns rows) = IsName table × IfSome columns AreNames
-HasNames (stmt.Delete table column lo hi) = IsName table × IsName column
-HasNames (stmt.MakeStream def) = StreamHasWords def
-HasNames (stmt.DropStream name) = IsName name
-HasNames stmt.Trim = Unit {0}
-HasNames (stmt.Select query) = QueryHasWords query
-HasNames (stmt.OpenCursor cursor query) = IsName cursor × QueryHasWords query
-HasNames (stmt.Fetch cursor rows) = IsName cursor
-HasNames (stmt.CloseCursor cursor) = IsName cursor
-HasNames stmt.Commit = Unit {0}
-HasNames stmt.Merge = Unit {0}
-HasNames stmt.Sweep = Unit {0}
-HasNames (stmt.Step stream) = IsName stream
-
--- Each name in a statement is a word, and each type of a column or a tag is one that is built.
-pub record HasWords (q : Stmt) : Type 0 where
-  pub names : HasNames q
-  pub types : has_type_not_built q ≡ false
+abbrev pub HasWords : Stmt → Type 0
+HasWords (stmt.Wrong cause) = IsPrintableCause cause
+HasWords (stmt.MakeStable name columns tags) = IsName name × AreNamed columns × IfSome tags AreNamed
+HasWords (stmt.MakeTable name columns) = IsName name × AreNamed columns
+HasWords (stmt.MakeSub name stable tags) = IsName name × IsName stable
+HasWords (stmt.Insert table columns rows) = IsName table × IfSome columns AreNames
+HasWords (stmt.Delete table column lo hi) = IsName table × IsName column
+HasWords (stmt.MakeStream def) = StreamHasWords def
+HasWords (stmt.DropStream name) = IsName name
+HasWords stmt.Trim = Unit {0}
+HasWords (stmt.Select query) = QueryHasWords query
+HasWords (stmt.OpenCursor cursor query) = IsName cursor × QueryHasWords query
+HasWords (stmt.Fetch cursor rows) = IsName cursor
+HasWords (stmt.CloseCursor cursor) = IsName cursor
+HasWords stmt.Commit = Unit {0}
+HasWords stmt.Merge = Unit {0}
+HasWords stmt.Sweep = Unit {0}
+HasWords (stmt.Step stream) = IsName stream
 
 -- ---- catalogs
 
@@ -114,15 +108,12 @@ pub record StableHasWords (s : StableDef) : Type 0 where
   pub name : IsName s.name
   pub columns : AreNamed s.schema.columns
   pub tags : AreNamed s.schema.tags
-  pub types : any_wide s.schema.columns ≡ false
 
 pub record TableHasWords (t : TableDef) : Type 0 where
   pub name : IsName t.name
   pub columns : AreNamed t.columns
-  pub types : any_wide t.columns ≡ false
 
--- The names of supertables, tables and streams, and of their columns and tags, are words, and each type of a column is
--- one that is built.
+-- The names of supertables, tables and streams, and of their columns and tags, are words.
 pub record AreWords (c : Catalog) : Type 0 where
   pub stables : AllByRecursion StableHasWords c.stables
   pub tables : AllByRecursion TableHasWords c.tables
@@ -139,8 +130,8 @@ pub record IsCounted (s : State) : Type 0 where
   pub halt : IfSome s.halt IsCount
   pub rows : length s.rows ≤ INSERT_ROWS * min s.version LAST_VERSION
 
--- A state whose replies can be printed: it is sound, the names in its catalog are words and its types are built, and
--- its numbers are below 2^64.
+-- A state whose replies can be printed: it is sound, the names in its catalog are words, and its numbers are below
+-- 2^64.
 pub record IsPrintableState (s : State) : Type 0 where
   pub sound : IsSound s
   pub words : AreWords s.catalog

@@ -1,7 +1,8 @@
-//! Laws of names, from the text of a statement to the reply.
+//! Laws of names, from the text of a statement to the reply and to the head of a store.
 ghost use Rattle.td_model.specs.Catalog.{empty_catalog};
 ghost use Rattle.td_model.specs.State.{empty_state};
 ghost use Rattle.td_printed.specs.Names.{AreWords, IsCounted, IsPrintableState};
+ghost use Rattle.td_printed.specs.Heads.{FitsHead};
 ghost use Rattle.td_printed.specs.Laws.{
   NamesOfATextAreWords,
   EntriesKeepWords,
@@ -10,16 +11,18 @@ ghost use Rattle.td_printed.specs.Laws.{
   StatesStayCounted,
   StatesStayPrintable,
   ToldReportsArePrintable,
+  TextsFitHeads,
+  EntriesFitHeads,
 };
 
-/// Each name in what is answered of a text is a word, and each type of a column or a tag is one that is built. Where
-/// the text has no tree, its cause can be printed: the place of an error of syntax is below 2^64.
+/// Each name in what is answered of a text is a word, and where the text has no tree, its cause can be printed: the
+/// place of an error of syntax is below 2^64.
 pub fn names_of_a_text_are_words()
     ensures { NamesOfATextAreWords }
 {}
 
-/// The empty catalog has no name that isn't a word, and no column. A catalog of words, whose columns' types are built,
-/// stays one: after the entry of a statement with words that is accepted, and after its turn, however that ends.
+/// The empty catalog has no name that isn't a word, and a catalog of words stays one: after the entry of a statement
+/// with words that is accepted, and after its turn, however that ends.
 pub fn catalogs_keep_words()
     ensures empty { AreWords empty_catalog }
     ensures entry { EntriesKeepWords }
@@ -51,4 +54,17 @@ pub fn states_stay_printable()
 /// where the numbers of that state and of the report are below 2^64.
 pub fn told_reports_are_printable()
     ensures { ToldReportsArePrintable }
+{}
+
+/// What a text makes has names and texts as a head asks: the names that its statement gives a supertable, a table and
+/// their columns and tags are short, a supertable's list of tags isn't empty, and no text of a tag has a byte below 32.
+pub fn texts_fit_heads()
+    ensures { TextsFitHeads }
+{}
+
+/// The names and the texts in a catalog that statements of texts make are as a head asks: so it is with the empty
+/// catalog, and the entry of a statement of a text that is accepted keeps a catalog so.
+pub fn catalogs_fit_heads()
+    ensures empty { FitsHead empty_catalog }
+    ensures entry { EntriesFitHeads }
 {}

@@ -1,4 +1,4 @@
 pub mod Subtables
 pub mod Parts
 pub mod Steps
-pub mod ColumnKinds
+pub mod Judged

@@ -11,7 +11,6 @@ use Rattle.td_tagidx.specs.Indexed.{Subtables, with_subtable, IsAbsent}
 use Rattle.td_rows.specs.Puts.{rows_after}
 use Rattle.td_tables.specs.declared.contents.Part.{Part}
 use Rattle.td_tables.specs.declared.contents.Part.TheVariants as part
-use Rattle.td_tables.specs.Kinds.{HasKinds}
 use Rattle.td_tables.specs.Latest.{Greatest, raised_all}
 
 -- the subtables with their tags, the greatest timestamps that were ever put, the rows, the retention edge, and the
@@ -123,8 +122,7 @@ state_of version moment c k =
       halt = k.halt;
     }
 
--- what is kept beside a catalog has its subtables, the state is sound, and each column is of a kind that columns have
+-- what is kept beside a catalog has its subtables, and the state is sound
 pub record IsRight (version moment : ℕ) (c : Catalog) (k : Kept) : Type 0 where
   pub subtables : k.subtables ≡ subtables_of c
   pub sound : IsSound (state_of version moment c k)
-  pub kinds : HasKinds c

@@ -9,7 +9,6 @@ use Rattle.td_catalog.specs.Kept as catalog
 use Rattle.td_verdict.specs.Sound.{IsFromEdge}
 use Rattle.td_tables.specs.declared.contents.Part.{Part}
 use Rattle.td_tables.specs.Contents.{ContentsHeld, Room, state_of, part_of, HasRoomBeside}
-use Rattle.td_tables.specs.Kinds.{DefinesKinds}
 
 -- The state; how many more supertables, tables and streams its catalog takes without further memory; and the room of
 -- what is kept beside the catalog.
@@ -41,12 +40,11 @@ catalog_held h =
     }
 
 -- An entry may come next in a state: it may follow the catalog, no row of it lies before the retention edge, which
--- doesn't fall, there is a version for it, and the columns that it defines are of kinds that columns have.
+-- doesn't fall, and there is a version for it.
 pub record CanTake (w : What) (s : State) : Type 0 where
   pub follows : CanFollow w s.catalog
   pub edge : IsFromEdge s.edge w
   pub version : s.version < LAST_VERSION
-  pub kinds : DefinesKinds w
 
 -- an entry, with what it changes in the catalog and its part beside it, in their memory
 pub record PreparedEntry : Type 0 where

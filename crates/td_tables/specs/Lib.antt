@@ -1,4 +1,3 @@
 pub mod Latest
 pub mod Contents
 pub mod Held
-pub mod Kinds

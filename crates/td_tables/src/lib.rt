@@ -6,7 +6,7 @@
 //! [`Tables::prepare`] takes all the memory that it needs and leaves the state as it is, and [`Tables::apply`] then
 //! takes none; the state is then the one that the entry makes of it. [`Tables::stop`] takes a halt in.
 //! [`Tables::share_rows`] gives the rows of the state, which later entries leave as they are. The state is sound at all
-//! times ([`Tables::is_sound`]), and each of its columns is of a kind that columns have (`Kinds`).
+//! times ([`Tables::is_sound`]).
 //!
 //! It stands on `td_told` for the definitions, on `td_bind` for verdicts and plans, on `td_fields` for headers, on
 //! `td_catalog`, `td_tagidx` and `td_rows` for what it keeps, and on `td_model` and `td_layer` for the types.

@@ -13,7 +13,6 @@ ghost use Rattle.td_told.specs.Journal.{halt_at};
 ghost use Rattle.td_told.specs.Verdict.{reads_clock, closed_cause, entry_verdict, verdict};
 ghost use Rattle.td_tables.specs.Contents.{part_of, HasRoomBeside};
 ghost use Rattle.td_tables.specs.Held.{catalog_held, CanTake, IsReady};
-ghost use Rattle.td_tables.specs.Kinds.{NamesKinds};
 
 use crate::contents::{Contents, Part};
 use crate::prepared::Prepared;
@@ -120,8 +119,7 @@ impl Tables {
         requires built { IsTrue (is_built stmt.now) }
         requires moment { moment ≤ LAST_TIMESTAMP }
         ensures verdict { IfOk result (λ answer. verdict_of answer ≡ entry_verdict stmt.now self.now.state moment) }
-        ensures takes { NamesKinds stmt.now
-            → IfOk result (λ answer. IfOk answer (λ accepted. CanTake accepted.0 self.now.state)) }
+        ensures takes { IfOk result (λ answer. IfOk answer (λ accepted. CanTake accepted.0 self.now.state)) }
     {
         if let Some(cause) = self.closed_cause() {
             return Ok(Err(cause));
@@ -133,13 +131,12 @@ impl Tables {
 
     /// What a write, or a text that is no statement, meets at a moment in milliseconds since 1970: it is accepted, with
     /// what its entry does and its count of rows, or refused with the first cause that applies. The state can take what
-    /// is accepted, where the columns that the statement defines are of kinds that columns have.
+    /// is accepted.
     pub fn judge(&self, stmt: &Stmt, moment: u64) -> Result<Result<(What, u32), Cause>, NoMem>
         requires clock { IsTrue (reads_clock stmt.now) }
         requires moment { moment ≤ LAST_TIMESTAMP }
         ensures verdict { IfOk result (λ answer. verdict_of answer ≡ verdict stmt.now self.now.state [] moment) }
-        ensures takes { NamesKinds stmt.now
-            → IfOk result (λ answer. IfOk answer (λ accepted. CanTake accepted.0 self.now.state)) }
+        ensures takes { IfOk result (λ answer. IfOk answer (λ accepted. CanTake accepted.0 self.now.state)) }
     {
         if let Stmt::Wrong(cause) = stmt {
             let cause = cause.copy()?;
@@ -211,9 +208,9 @@ impl Tables {
         self.contents.stop(self.version);
     }
 
-    /// What a query meets: it passes with its plan, or is refused with the first cause that applies. The plan of a query
-    /// without NOW is sound. It can be answered in any case: its timestamps end in the range of time, and its interval
-    /// has durations in their bounds.
+    /// What a query meets: it passes with its plan, or is refused with the first cause that applies. The plan of a
+    /// query without NOW is sound. It can be answered in any case: its timestamps end in the range of time, and its
+    /// interval has durations in their bounds.
     pub fn plan(&self, query: &Query) -> Result<Result<Plan, Cause>, NoMem>
         ensures verdict { IfOk result (λ answer. query_verdict_of answer
             ≡ query_verdict query.now self.now.state.catalog) }

@@ -47,7 +47,8 @@ date_of text = do
 
 -- the milliseconds of a whole second of the day
 unfoldable pub second_of : ℕ → ℕ → ℕ → Option ℕ
-second_of h m s = if nat_lt h 24 && (nat_lt m 60 && nat_lt s 60) then Some (((h * 60 + m) * 60 + s) * a_second) else None
+second_of h m s =
+    if nat_lt h 24 && (nat_lt m 60 && nat_lt s 60) then Some (((h * 60 + m) * 60 + s) * a_second) else None
 
 unfoldable pub clock_of : List ℕ → Option (ℕ × List ℕ)
 clock_of text = do

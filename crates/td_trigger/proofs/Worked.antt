@@ -2,6 +2,7 @@
 use Rattle.std.proofs.Common.{◌≡◌, ℕ, pos, Some, None, true, false, List, [], ◌∷◌, refl}
 use Rattle.td_layer.specs.declared.values.Value.{Value}
 use Rattle.td_layer.specs.declared.values.Value.TheVariants.{Num}
+use Rattle.td_limits.specs.declared.limits.TheConstants.{LAST_TIMESTAMP}
 use Rattle.td_model.specs.declared.language.WindowDef.TheVariants.{Interval, Session, State}
 use Rattle.td_window.specs.Windows.{Window, session_windows, state_windows}
 use Rattle.td_trigger.specs.declared.range.Range.{Range}
@@ -28,7 +29,7 @@ a_bridge_of_sessions = refl
 a_state_with_neighbours : region (range 5 5 ∷ []) (range 1 3 ∷ range 4 6 ∷ range 9 9 ∷ []) (State []) ≡ range 1 9 ∷ []
 a_state_with_neighbours = refl
 
-no_old_state_window : region (range 5 5 ∷ []) [] (State []) ≡ range 0 253402300799999 ∷ []
+no_old_state_window : region (range 5 5 ∷ []) [] (State []) ≡ range 0 LAST_TIMESTAMP ∷ []
 no_old_state_window = refl
 
 -- ---- closed windows

@@ -9,7 +9,8 @@
 //! drawn; the ticket that is served; and the slot, where the value lies. Each pass knows what its holder has seen, the
 //! versions that it notes, its parts, and its ticket. Six kinds of step change them, in any order between threads:
 //!
-//! - draw ticket: the number of tickets is raised by a compare and exchange, and where it wins the pass has that ticket;
+//! - draw ticket: the number of tickets is raised by a compare and exchange, and where it wins the pass has that
+//!   ticket;
 //! - watch serving: where the ticket that is served is the pass's own, the slot is taken, and the value's list is seen;
 //! - count front: the front is raised by the number of entries that were added, the list that they are in is seen, and
 //!   their versions are noted;

@@ -1,3 +1,4 @@
 pub mod Worked
 pub mod WorkedQueries
 pub mod Schemas
+pub mod ColumnValues

@@ -6,7 +6,7 @@
 use Rattle.std.specs.Prelude.{◌≡◌, ℕ, pos, negsuc, List, [], ◌∷◌, Some, None, refl}
 use lib.Chars.{codes}
 use Rattle.td_cols.specs.declared.kinds.Kind.{Kind}
-use Rattle.td_cols.specs.declared.kinds.Kind.TheVariants.{I8, I32, U64, Time, Text}
+use Rattle.td_cols.specs.declared.kinds.Kind.TheVariants.{I8, I32, U64, Time, Wide, Text}
 use Rattle.td_cols.specs.Kinds.{is_in_range, kind_least, kind_most}
 use Rattle.td_layer.specs.declared.values.Value.TheVariants as value
 use Rattle.td_layer.specs.declared.values.Cell.TheVariants as cell
@@ -76,6 +76,16 @@ no_timestamp = refl
 
 a_wide_text : met (stmt.MakeStable (codes "x") (column (codes "ts") Time ∷ []) (Some (column (codes "g") (Text 4097) ∷ []))) ≡ Refuse (OutOfRange (codes "g"))
 a_wide_text = refl
+
+-- no column is a text or has sums of 128 bits, and no tag has such sums
+a_column_of_texts : met (stmt.MakeTable (codes "x") (column (codes "ts") Time ∷ column (codes "g") (Text 8) ∷ [])) ≡ Refuse (OutOfRange (codes "g"))
+a_column_of_texts = refl
+
+a_column_of_sums : met (stmt.MakeTable (codes "x") (column (codes "ts") Time ∷ column (codes "v") Wide ∷ [])) ≡ Refuse (OutOfRange (codes "v"))
+a_column_of_sums = refl
+
+a_tag_of_sums : met (stmt.MakeStable (codes "x") (column (codes "ts") Time ∷ []) (Some (column (codes "g") Wide ∷ []))) ≡ Refuse (OutOfRange (codes "g"))
+a_tag_of_sums = refl
 
 the_first_column_is_missing : met (stmt.Insert (codes "d1001") (Some (codes "voltage" ∷ [])) ((num 1 ∷ []) ∷ [])) ≡ Refuse NeedsTime
 the_first_column_is_missing = refl

@@ -99,7 +99,8 @@ groups_from one picked tables = filter (is_shown one) (put_tables picked (first_
 -- the picked rows of a query in a state by the cells of the PARTITION BY items, in the order of these
 abbrev pub groups_in : Query → Schema → List Numbered → Rows → List Grouped
 groups_in q s tables rows =
-    groups_from (has_one_group q) (picked_rows s.columns (comparisons_of s q.conds) rows) (map (listed_table s q) tables)
+    groups_from (has_one_group q) (picked_rows s.columns (comparisons_of s q.conds) rows)
+    (map (listed_table s q) tables)
 
 abbrev pub groups : Query → State → List Grouped
 groups q s = groups_in q (source_schema q.source s.catalog) (source_tables q.source s.catalog) s.rows

@@ -14,7 +14,7 @@ use Rattle.td_model.specs.declared.catalog.StreamEntry.{StreamEntry}
 use Rattle.td_model.specs.declared.catalog.TableDef.{TableDef}
 use Rattle.td_model.specs.Catalog.{Catalog, stable_at, schema_or_none}
 use Rattle.td_verdict.specs.Names.{lacks_time, stands_twice}
-use Rattle.td_verdict.specs.Values.{is_truth, is_text, width_of, has_width}
+use Rattle.td_verdict.specs.Values.{is_truth, is_text, width_of, is_column_kind, is_tag_kind}
 use Rattle.td_verdict.specs.Writes.{have_one_name}
 
 -- a cell is NULL, or a truth value, a number or a text that is in the range of a kind
@@ -29,12 +29,13 @@ suits_kind k (cell.Str text) = option_map_or (λ width. nat_le (length text) wid
 abbrev pub AreTags : List Column → List Cell → Type 0
 AreTags tags cells = AllZip (λ (t : Column) (a : Cell). suits_kind t.kind a ≡ true) tags cells
 
--- the columns and the tags of a table: the first column is a TIMESTAMP, no name stands twice, and there are not too
--- many
+-- The columns and the tags of a table: the first column is a TIMESTAMP, no name stands twice, each column and each tag
+-- is of a kind that it can have, and there are not too many.
 pub record IsSchema (columns tags : List Column) : Type 0 where
   pub time : lacks_time columns ≡ false
   pub apart : have_one_name columns tags ≡ false
-  pub widths : list_all (λ (c : Column). has_width c.kind) (columns ++ tags) ≡ true
+  pub column_kinds : list_all (λ (c : Column). is_column_kind c.kind) columns ≡ true
+  pub tag_kinds : list_all (λ (c : Column). is_tag_kind c.kind) tags ≡ true
   pub few_columns : length columns ≤ COLUMNS
   pub few_tags : length tags ≤ TAGS
 

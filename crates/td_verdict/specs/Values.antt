@@ -81,6 +81,13 @@ tag_from k None None = cell.Null
 abbrev pub tag_of : Kind → ℕ → Lit → Cell
 tag_of k moment l = tag_from k (number_at k moment l) (text_at k l)
 
--- a text has 1 byte or more, and not too many
-abbrev pub has_width : Kind → Bool
-has_width k = option_map_or (λ n. nat_le 1 n && nat_le n TAG_BYTES) (width_of k) true
+-- the kinds that columns can have: those with numbers of a fixed width that files can keep
+abbrev pub is_column_kind : Kind → Bool
+is_column_kind kind.Wide = false
+is_column_kind (kind.Text n) = false
+is_column_kind _ = true
+
+-- the kinds that tags can have: those of columns, and texts of 1 byte or more and not too many
+abbrev pub is_tag_kind : Kind → Bool
+is_tag_kind (kind.Text n) = nat_le 1 n && nat_le n TAG_BYTES
+is_tag_kind k = is_column_kind k

@@ -24,7 +24,7 @@ use Rattle.td_model.specs.Catalog.{Catalog, stable_named, table_named, stream_na
 use Rattle.td_limits.specs.declared.limits.TheConstants.{COLUMNS, DAY_RANGE, INSERT_ROWS, KEEP, LAST_TIMESTAMP, TABLES, TAGS}
 use Rattle.td_verdict.specs.Causes.{when, first_cause, accepted_or}
 use Rattle.td_verdict.specs.Names.{is_stable, is_target, is_taken, is_stream, number_or_none, table_schema, stable_schema, stands_twice, names_of, is_named, column_named, is_first, lacks_time}
-use Rattle.td_verdict.specs.Values.{number_at, is_null, suits, fits, value_of, tag_of, has_width}
+use Rattle.td_verdict.specs.Values.{number_at, is_null, suits, fits, value_of, tag_of, is_column_kind, is_tag_kind}
 
 -- the first that a list's items give
 abbrev pub first_given : {A B : Type 0} → (A → Option B) → List A → Option B
@@ -33,9 +33,9 @@ first_given give (x ∷ xs) = option_or (give x) (first_given give xs)
 
 -- ---- CREATE STABLE, CREATE TABLE
 
--- the first column whose text's bytes are outside 1 to 4096
-abbrev pub width_cause : List Column → Option Cause
-width_cause columns = option_map (λ c. cause.OutOfRange c.name) (find (λ c. not (has_width c.kind)) columns)
+-- out of range at the first column whose kind fails a test
+abbrev pub kind_cause : (Kind → Bool) → List Column → Option Cause
+kind_cause test columns = option_map (λ c. cause.OutOfRange c.name) (find (λ c. not (test c.kind)) columns)
 
 -- one more table or supertable would be too many together
 abbrev pub is_full : Catalog → Bool
@@ -53,8 +53,13 @@ count_cause columns tags c = first_cause (
 abbrev pub have_one_name : List Column → List Column → Bool
 have_one_name columns tags = stands_twice (names_of columns ++ names_of tags)
 
+-- of the kinds of a definition's columns and tags, and of their numbers
 abbrev pub size_cause : List Column → List Column → Catalog → Option Cause
-size_cause columns tags c = first_cause (width_cause columns ∷ width_cause tags ∷ count_cause columns tags c ∷ [])
+size_cause columns tags c = first_cause (
+    kind_cause is_column_kind columns
+    ∷ kind_cause is_tag_kind tags
+    ∷ count_cause columns tags c
+    ∷ [])
 
 abbrev pub definition_cause : List ℕ → List Column → List Column → Catalog → Option Cause
 definition_cause name columns tags c = first_cause (

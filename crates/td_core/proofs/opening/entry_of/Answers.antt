@@ -1,5 +1,4 @@
 use Rattle.td_core.proofs.Items.{entry_accepted, entry_refused}
-use Rattle.td_core.proofs.NamedKinds.{names_kinds}
 use Rattle.td_core.proofs.opening.entry_of.Goals as goal
 
 pub returns-clause-accepted : goal.returns-clause-accepted
@@ -7,6 +6,3 @@ returns-clause-accepted c = entry_accepted c.args.text.now c.in_ok-stmt.stmt c.a
 
 pub returns-clause-refused : goal.returns-clause-refused
 returns-clause-refused c = entry_refused c.args.text.now c.in_ok-stmt.stmt c.args.item.now c.args.tables.now.state c.judge_item-entry.result c.in_ok-stmt.ensures c.judge_item-entry.ensures.refused
-
-pub judge_item-entry-requires-clause-kinds : goal.judge_item-entry-requires-clause-kinds
-judge_item-entry-requires-clause-kinds c = names_kinds c.args.text.now c.in_ok-stmt.stmt c.in_ok-stmt.ensures

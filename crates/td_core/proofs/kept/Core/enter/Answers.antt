@@ -14,7 +14,6 @@ use Rattle.td_core.specs.CoreState.{log_place}
 use Rattle.td_core.specs.Writing.{Carries}
 use Rattle.td_core.specs.Carrying.{parts}
 use Rattle.td_core.proofs.Points.{going}
-use Rattle.td_core.proofs.NamedKinds.{names_kinds}
 use Rattle.td_core.proofs.Entering.{carried, ready_writable, ready_place, ready_next, kept_still, kept_if, answers_if, lacks_if, lacks_still, on_err}
 use Rattle.td_core.proofs.kept.Core.enter.Goals as goal
 
@@ -23,8 +22,7 @@ accepted_by answer accepted v is judged = ap verdict_of (sym is) ∙ judged
 
 pub make_ready-requires : goal.make_ready-requires
 make_ready-requires g c =
-    let named = names_kinds c.args.text.now c.args.stmt.now c.requires.parsed in
-    subst (λ r. IfOk r (λ a. CanTake a.0 c.self.inside.tables.state)) c.in-Ok.is (c.in_ok-accepted.ensures.takes named)
+    subst (λ r. IfOk r (λ a. CanTake a.0 c.self.inside.tables.state)) c.in-Ok.is c.in_ok-accepted.ensures.takes
 
 pub invariant_of-self : goal.invariant_of-self
 invariant_of-self g c =
@@ -40,8 +38,7 @@ pub carry_out-requires-clause-writable : goal.carry_out-requires-clause-writable
 carry_out-requires-clause-writable g c =
     let i = c.self.inside in
     let accepted = accepted_by c.in_ok-accepted.field-0 c.in-Ok.accepted (verdict c.args.stmt.now i.tables.state [] c.args.moment) c.in-Ok.is c.in_ok-accepted.ensures.verdict in
-    let named = names_kinds c.args.text.now c.args.stmt.now c.requires.parsed in
-    let takes = subst (λ r. IfOk r (λ a. CanTake a.0 i.tables.state)) c.in-Ok.is (c.in_ok-accepted.ensures.takes named) in
+    let takes = subst (λ r. IfOk r (λ a. CanTake a.0 i.tables.state)) c.in-Ok.is c.in_ok-accepted.ensures.takes in
     let last : c.args.moment ≤ LAST_TIMESTAMP = omega (arith, c.requires.moment, ap (λ k. k.floor) c.self.view_is, c.self.invariant.last) in
     let few : c.args.ordinal < 2 ^ 32 = omega (arith, c.ranges.ordinal) in
     λ κs lives. ready_writable c.in_ok-ready.ready.item c.args.session c.args.ordinal c.args.moment c.args.text.now c.args.stmt.now i.tables.state c.in-Ok.accepted.0 c.in-Ok.accepted.1 c.in_ok-ready.ensures.item takes.version last c.requires.session.1 few c.requires.parsed accepted

@@ -3,9 +3,6 @@ use Rattle.td_model.specs.State.{step}
 use Rattle.td_catalog.specs.Kept.{change_of}
 use Rattle.td_verdict.specs.Sound.{IsSound}
 use Rattle.td_bind.proofs.Steps.{step_sound}
-use Rattle.td_tables.specs.Held.{PreparedEntry}
-use Rattle.td_tables.specs.Kinds.{HasKinds, DefinesKinds}
-use Rattle.td_tables.proofs.ColumnKinds.{kinds_after}
 use Rattle.td_tables.proofs.Subtables.{kept_right}
 use Rattle.td_tables.proofs.Steps.{stepped}
 use Rattle.td_tables.proofs.tables.Tables.apply.Goals as goal
@@ -22,9 +19,6 @@ invariant_of-self c =
     record {
       subtables = kept_right c.prepared.inside.entry.what (c.self.inside.version + 1) c.prepared.inside.entry.moment c.self.inside.catalog.catalog c.apply-2.new.self.catalog c.self.inside.contents.kept c.apply.new.self.kept c.self.invariant.subtables c.apply.ensures changed;
       sound = subst IsSound (sym state_is) after;
-      kinds = subst HasKinds (sym changed)
-          (kinds_after c.prepared.inside.entry.what c.self.inside.catalog.catalog c.self.invariant.kinds
-          (subst (λ (p : PreparedEntry). DefinesKinds p.entry.what) (sym c.prepared.view_is) c.requires.takes.kinds));
     }
 
 pub returns : goal.returns
