@@ -1,5 +1,5 @@
 -- The summaries of columns are such as an index may have.
-use Rattle.std.proofs.Common.{◌≡◌, ℕ, suc, ◌+◌, ◌-◌, ◌*◌, ◌^◌, ◌≤◌, true, ltb, leb, eqb, cond, ℤ, pos, neg_ℤ, List, [], ◌∷◌, length, Option, Some, None, refl, arith}
+use Rattle.std.proofs.Common.{◌≡◌, ℕ, suc, ◌-◌, ◌*◌, ◌^◌, ◌≤◌, true, ltb, leb, eqb, cond, ℤ, pos, neg_ℤ, List, [], ◌∷◌, length, Option, Some, None, refl, arith}
 use Rattle.std.specs.Prelude.{◌&&◌, ◌≤ℤ◌, ◌+ℤ◌, int_le, slice_index_or, IfSome}
 use Rattle.std.specs.List.{AllByRecursion}
 use Rattle.std.specs.Ordering.{int_eq}

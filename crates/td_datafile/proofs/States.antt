@@ -22,7 +22,7 @@ use Rattle.td_datafile.specs.declared.blocks.Spot.{Spot}
 use Rattle.td_datafile.specs.Opening.{opening_at}
 use Rattle.td_datafile.specs.Blocks.{key_of}
 use Rattle.td_datafile.specs.Scanned.{Want, Walked, nothing_left, keyed, walk, before_all, behind_opening, scanned, places_of, damaged_places}
-use Rattle.td_datafile.specs.Scanning.{left_at, left_with, bytes_left, left_of, Keeps, IsNextRow, IsFault, Faults, IsOpen, IsScan}
+use Rattle.td_datafile.specs.Scanning.{left_at, left_with, bytes_left, left_of, Keeps, IsNextRow, IsFault, Faults, IsOpen, IsScan, ComesLast}
 use Rattle.td_datafile.proofs.Walks.{walk_ends, scanned_rises}
 
 abbrev Pairs : Type 0
@@ -98,6 +98,28 @@ later_fault want told file entries spot (scans.Damaged n place) o f = (
   told_2 told (IsOpen want entries spot) (IsFault want entries spot place) (λ all. (scanned want all).fault ≡ Some place) (λ all p q. sym p.fault_is ∙ q.fault) o f.1,
 )
 later_fault want told file entries spot scans.NoMemory o f = tt
+
+-- ---- no partial is left before damaged bytes
+
+pub opening_last : (want : Want) (told : Option (List ℕ)) (file : ℕ) (begun : Bool) (entries : List Entry) (rows : Rows) (spot : Spot) (e : ScanFault) → begun ≡ false → GivesPlaced (λ (o : Opening). o) told file (Err e) opening_at → ComesLast (left_of want told begun entries rows spot) e
+unfolding scanned
+opening_last want told file begun entries rows spot scans.ReadFault fresh g = tt
+opening_last want told file begun entries rows spot (scans.Damaged n place) fresh g = subst (λ (b : Bool). IfSome (left_of want told b entries rows spot) (λ l. l ≡ [])) (sym fresh) (by_told told g.1)
+  where
+    by_told : (t : Option (List ℕ)) → IfSome t (λ all. opening_at all ≡ Err place) → IfSome (left_of want t false entries rows spot) (λ l. l ≡ [])
+    by_told None h = tt
+    by_told (Some all) h = ap (λ (o : Result Opening ℕ). (behind_opening want all o).partials) h
+opening_last want told file begun entries rows spot scans.NoMemory fresh g = tt
+
+pub later_last : (want : Want) (told : Option (List ℕ)) (file : ℕ) (begun : Bool) (entries : List Entry) (rows rows' : Rows) (spot spot' : Spot) (e : ScanFault) → begun ≡ true → IfSome told (Keeps want entries rows rows' spot spot') → rows' ≡ [] → Faults want entries told file spot' e
+    → ComesLast (left_of want told begun entries rows spot) e
+later_last want told file begun entries rows rows' spot spot' scans.ReadFault b k none f = tt
+later_last want told file begun entries rows rows' spot spot' (scans.Damaged n place) b k none f = subst (λ (t : Bool). IfSome (left_of want told t entries rows spot) (λ l. l ≡ [])) (sym b) (by_told told k f.1)
+  where
+    by_told : (t : Option (List ℕ)) → IfSome t (Keeps want entries rows rows' spot spot') → IfSome t (IsFault want entries spot' place) → IfSome (left_of want t true entries rows spot) (λ l. l ≡ [])
+    by_told None k h = tt
+    by_told (Some all) k h = sym k.partials ∙ ap (λ (l : Rows). left_with want entries l spot' all) none ∙ h.none
+later_last want told file begun entries rows rows' spot spot' scans.NoMemory b k none f = tt
 
 -- ---- a scan that has begun
 

@@ -1,5 +1,5 @@
 -- What reading one block after the other gives.
-use Rattle.std.proofs.Common.{◌≡◌, ℕ, zero, suc, ◌+◌, ◌-◌, ◌*◌, ◌<◌, ◌^◌, Bool, true, false, cond, eqb, leb, not, ℤ, List, [], ◌∷◌, ◌++◌, length, take, drop, reverse, Option, Some, Result, Ok, Err, refl, sym, ap, subst, ◌∙◌, arith}
+use Rattle.std.proofs.Common.{◌≡◌, ℕ, zero, suc, ◌+◌, ◌*◌, ◌<◌, ◌^◌, Bool, true, false, cond, eqb, leb, not, ℤ, List, [], ◌∷◌, ◌++◌, length, take, drop, reverse, Option, Some, Result, Ok, Err, refl, sym, ap, subst, ◌∙◌, arith}
 use Rattle.std.specs.Prelude.{◌&&◌, slice_index, slice_get}
 use Rattle.std.specs.List.{AllByRecursion, filter, flat_map}
 use Rattle.std.specs.Int.{w16, w32, w64, to_le_bytes}
@@ -93,7 +93,7 @@ pub read_fault : (want : Want) (entries : List Entry) (told : Option (List ℕ))
 read_fault want entries told file spot entry scans.ReadFault at g = tt
 read_fault want entries told file spot entry (scans.Damaged n place) at g = (
   g.0,
-  told_1 told (λ all. wanted_block want spot.range spot.last spot.place entry all ≡ Err place) (IsFault want entries spot place) (λ all e. record { fault = ap (λ (w : Walked). w.fault) (left_next want entries spot entry all (Err place) at e) }) g.1,
+  told_1 told (λ all. wanted_block want spot.range spot.last spot.place entry all ≡ Err place) (IsFault want entries spot place) (λ all e. let next = left_next want entries spot entry all (Err place) at e in record { fault = ap (λ (w : Walked). w.fault) next; none = ap (λ (w : Walked). w.partials) next }) g.1,
 )
 read_fault want entries told file spot entry scans.NoMemory at g = tt
 

@@ -43,9 +43,10 @@ abbrev pub IsNextRow : ℕ → Rows → Rows → Option (Key × Partial) → Typ
 IsNextRow table rows rest None = (rows ≡ []) × (rest ≡ [])
 IsNextRow table rows rest (Some p) = (p.0.table ≡ table) × (rows ≡ rest ++ (p.0.ts, p.1) ∷ [])
 
--- the first fault from a spot on is at a place
+-- the first fault from a spot on is at a place, and no partial stands before it
 pub record IsFault (want : Want) (entries : List Entry) (spot : Spot) (place : ℕ) (all : List ℕ) : Type 0 where
   pub fault : (left_at want entries spot all).fault ≡ Some place
+  pub none : (left_at want entries spot all).partials ≡ []
 
 -- Why reading blocks stopped: damaged bytes are those of the first fault from the spot on, where the file tells its
 -- bytes.
@@ -78,6 +79,12 @@ pub record IsSameScan (old new : Scan) : Type 0 where
   pub told_is : new.told ≡ old.told
   pub file_is : new.file ≡ old.file
   pub size_is : new.size ≡ old.size
+
+-- Damaged bytes are answered only once each partial before them was given.
+abbrev pub ComesLast : Option (List (Key × Partial)) → ScanFault → Type 0
+ComesLast left (Damaged f place) = IfSome left (λ l. l ≡ [])
+ComesLast left ReadFault = Unit {0}
+ComesLast left NoMemory = Unit {0}
 
 -- a scan that gave its last partial found no damage in what it read, where its file tells its bytes
 abbrev pub IsSound : Scan → Type 0

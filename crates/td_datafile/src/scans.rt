@@ -8,7 +8,7 @@ ghost use Rattle.td_layer.specs.Keys.{InKeyOrder};
 ghost use Rattle.td_fileio.specs.Places.{GivesPlaced};
 ghost use Rattle.td_fileio.specs.Reading.{IsAhead, IsSameFile};
 ghost use Rattle.td_datafile.specs.Scanned.{wanted_of, is_needed, wanted_block, scanned};
-ghost use Rattle.td_datafile.specs.Scanning.{want_of, bytes_left, Keeps, Faults, damaged_of, cuts_of, IsNextRow, IsSameScan, IsSound};
+ghost use Rattle.td_datafile.specs.Scanning.{want_of, bytes_left, Keeps, Faults, damaged_of, cuts_of, IsNextRow, IsSameScan, IsSound, ComesLast};
 
 use crate::blocks::{Spot, Wanted, entry_length, own_block};
 use crate::format::Entry;
@@ -105,6 +105,7 @@ fn read_block<F: FileBytes>(
     ensures room { spot.new.place + bytes_left entries.now spot.new < 2 ^ 64 }
     ensures faults { IfErr result
         (Faults (want_of wanted.now) entries.now (F.bytes file.old) (F.file file.old) spot.new) }
+    ensures rows_stay { OnErr result (rows.new ≡ []) }
     ensures ahead { IsAhead (F.bytes file.new) ahead.new.from ahead.new.bytes }
     ensures file { IsSameFile (F.bytes file.old) (F.bytes file.new) (F.file file.old) (F.file file.new)
         (F.size file.old) (F.size file.new) }
@@ -143,6 +144,7 @@ fn fill<F: FileBytes>(
     ensures ends { OnOk result (rows.new ≡ [] → length entries.now ≤ spot.new.next) }
     ensures faults { IfErr result
         (Faults (want_of wanted.now) entries.now (F.bytes file.old) (F.file file.old) spot.new) }
+    ensures rows_stay { OnErr result (rows.new ≡ []) }
     ensures ahead { IsAhead (F.bytes file.new) ahead.new.from ahead.new.bytes }
     ensures file { IsSameFile (F.bytes file.old) (F.bytes file.new) (F.file file.old) (F.file file.new)
         (F.size file.old) (F.size file.new) }
@@ -234,6 +236,7 @@ impl<'a, F: FileBytes> FileScan<'a, F> {
         ensures same { IsSameScan self.old self.new }
         ensures ok { OnOk result (self.new.begun ≡ true) }
         ensures err { OnErr result (self.new.begun ≡ self.old.begun) }
+        ensures last { IfErr result (ComesLast self.old.left) }
         ensures cause { HasScanCause (damaged_of self.old) self.old.count self.new.count result }
     {
         if self.begun {
@@ -259,6 +262,7 @@ impl<'a, F: FileBytes> FileScan<'a, F> {
         ensures sound { IfOk result (λ o. o ≡ None → IsSound self.old) }
         ensures same { IsSameScan self.old self.new }
         ensures begun { self.new.begun ≡ true }
+        ensures last { IfErr result (ComesLast self.old.left) }
         ensures cause { HasScanCause (damaged_of self.old) self.old.count self.new.count result }
     {
         fill(
@@ -333,7 +337,8 @@ impl<'a, F: FileBytes> RowScan for FileScan<'a, F> {
 
     ghost count = { λ s. s.count };
 
-    /// What [`RowScan::next`] says. An end comes only where what was read has no fault.
+    /// What [`RowScan::next`] says. An end comes only where what was read has no fault, and `Damaged` only once each
+    /// partial before the damaged bytes was given.
     fn next<L: Ledger>(&mut self, steps: &mut Steps<L>) -> Result<Option<(Key, Partial)>, ScanFault>
         ensures partials { GivesFirst self.old.left self.new.left result }
         ensures in_order { IfSome self.old.left InKeyOrder }
@@ -345,6 +350,7 @@ impl<'a, F: FileBytes> RowScan for FileScan<'a, F> {
         ensures fault { HasScanCause (damaged_of self.old) self.old.count self.new.count result }
         ensures steps { steps.new ≡ steps.old + given result }
         ensures sound { IfOk result (λ o. o ≡ None → IsSound self.old) }
+        ensures last { IfErr result (ComesLast self.old.left) }
         ensures same { IsSameScan self.old self.new }
     {
         self.begin()?;

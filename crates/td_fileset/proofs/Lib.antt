@@ -23,3 +23,4 @@ pub mod Answered
 pub mod Indexed
 pub mod Advanced
 pub mod Told
+pub mod Risen

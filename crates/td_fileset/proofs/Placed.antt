@@ -10,11 +10,12 @@ use Rattle.td_cols.specs.declared.kinds.Kind.{Kind}
 use Rattle.td_layer.specs.declared.scans.ScanFault.{ScanFault}
 use Rattle.td_layer.specs.Scans.{Places, HasScanCause}
 use Rattle.td_memtable.specs.Contents.{Contents}
-use Rattle.td_sttfile.specs.Scanned.{Walked as SttWalked, places_of as stt_places}
-use Rattle.td_sttfile.proofs.Narrow.{scan_narrowed as stt_part}
+use Rattle.td_sttfile.specs.Scanned.{scanned as stt_scanned, places_of as stt_places}
+use Rattle.td_sttfile.specs.Ranges.{faults_of as stt_faults}
+use Rattle.td_sttfile.proofs.Narrow.{fault_among as stt_among}
 use Rattle.td_datafile.specs.Scanned.{scanned as data_scanned, places_of as data_places}
 use Rattle.td_datafile.specs.Ranges.{faults_of as data_faults}
-use Rattle.td_datafile.proofs.Narrow.{fault_among}
+use Rattle.td_datafile.proofs.Narrow.{fault_among as data_among}
 use Rattle.td_fileset.specs.Merged.{all_told, told_places}
 use Rattle.td_fileset.specs.Sources.{Kept, Reads, InMemory, InSttFile, InDataFile}
 use Rattle.td_fileset.specs.Layered.{OpenSet, listed, files_of, Span, whole, last_ts, stt_want, data_want, places_in, file_places, table_places, Stored, damaged_told}
@@ -34,29 +35,35 @@ module _ (table : ℕ) (kinds : List Kind) (lo hi : ℕ) (g : hi ≤ last_ts) wh
   abbrev near : Span
   near = record { table = table; kinds = kinds; lo = lo; hi = hi }
 
+  one : (file at : ℕ) (x : ℕ × ℕ) → Contains ((file, at) ∷ []) x → (file, at) ≡ x
+  one file at x c = first c.0 c.1 c.2
+    where
+      first : (k : ℕ) → k < 1 → slice_index_or ((file, at) ∷ []) k x ≡ x → (file, at) ≡ x
+      first zero lt is = is
+      first (suc k) lt is = absurd (omega (arith, lt))
+
+  -- a place of some faults is one of a file
+  of_faults : (file at : ℕ) (faults : List ℕ) (x : ℕ × ℕ) → Contains faults at → Contains ((file, at) ∷ []) x → Contains (map (λ (at : ℕ). (file, at)) faults) x
+  of_faults file at faults x found c =
+      subst (λ y. Contains (map (λ (at : ℕ). (file, at)) faults) y) (one file at x c) (contains_map (λ (at : ℕ). (file, at)) faults at found.0 found.1 found.2)
+
   data_inside : (file : ℕ) (all : List ℕ) (x : ℕ × ℕ) → Contains (first_places near InDataFile file all) x → Contains (places_in (whole table kinds) InDataFile file all) x
   data_inside file all x c = by (data_scanned (data_want near) all).fault refl c
     where
       by : (o : Option ℕ) → (data_scanned (data_want near) all).fault ≡ o → Contains (data_places file o) x → Contains (map (λ (at : ℕ). (file, at)) (data_faults table kinds all)) x
       by None is c = absurd (none_in x c)
-      by (Some at) is c =
-          let found = fault_among (data_want near) all at is in
-          subst (λ y. Contains (map (λ (at : ℕ). (file, at)) (data_faults table kinds all)) y) (one c) (contains_map (λ (at : ℕ). (file, at)) (data_faults table kinds all) at found.0 found.1 found.2)
-        where
-          one : Contains ((file, at) ∷ []) x → (file, at) ≡ x
-          one c = first c.0 c.1 c.2
-            where
-              first : (k : ℕ) → k < 1 → slice_index_or ((file, at) ∷ []) k x ≡ x → (file, at) ≡ x
-              first zero lt is = is
-              first (suc k) lt is = absurd (omega (arith, lt))
+      by (Some at) is c = of_faults file at (data_faults table kinds all) x (data_among (data_want near) all at is) c
+
+  stt_inside : (file : ℕ) (all : List ℕ) (x : ℕ × ℕ) → Contains (first_places near InSttFile file all) x → Contains (places_in (whole table kinds) InSttFile file all) x
+  stt_inside file all x c = by (stt_scanned (stt_want near) all).fault refl c
+    where
+      by : (o : Option ℕ) → (stt_scanned (stt_want near) all).fault ≡ o → Contains (stt_places file o) x → Contains (map (λ (at : ℕ). (file, at)) (stt_faults table kinds all)) x
+      by None is c = absurd (none_in x c)
+      by (Some at) is c = of_faults file at (stt_faults table kinds all) x (stt_among (stt_want near) all at is) c
 
   inside : (kept : Kept) (file : ℕ) (all : List ℕ) (x : ℕ × ℕ) → Contains (first_places near kept file all) x → Contains (places_in (whole table kinds) kept file all) x
   inside InMemory file all x c = c
-  inside InSttFile file all x c = subst (λ l. Contains l x) (ap (λ (w : SttWalked). stt_places file w.fault) (stt_part table kinds 0 lo hi last_ts (omega arith) g all) ∙ by (Rattle.td_sttfile.specs.Scanned.scanned (stt_want (whole table kinds)) all).fault) c
-    where
-      by : (o : Option ℕ) → stt_places file o ≡ map (λ (at : ℕ). (file, at)) (listed o)
-      by None = refl
-      by (Some at) = refl
+  inside InSttFile file all x c = stt_inside file all x c
   inside InDataFile file all x c = data_inside file all x c
 
   file_among : (r : Reads) (all : Places) → AreAmong (file_places (whole table kinds) r) all → AreAmong (told_damage near r) all

@@ -42,7 +42,7 @@ module _ (want : SttWant) where
   stt_walk_of : (range : ℕ) (all : List ℕ) (blocks at : ℕ) (last : Key) → AllByRecursion (IsOf want.table) (stt_walk want range all blocks at last).partials
   unfolding stt_walk
   stt_walk_of range all zero at last = tt
-  stt_walk_of range all (suc blocks) at last = stt_then_of (stt_walk want range all blocks) (block_at want.kinds want.table range last at all) (stt_walk_of range all blocks)
+  stt_walk_of range all (suc blocks) at last = stt_then_of (stt_walk want range all blocks) (block_at want.kinds want.table want.lo want.hi range last at all) (stt_walk_of range all blocks)
 
   pub stt_of : (all : List ℕ) → AllByRecursion (IsOf want.table) (stt_scanned want all).partials
   unfolding stt_scanned
@@ -72,6 +72,10 @@ module _ (want : DataWant) where
 
 -- ---- parts of layers
 
+is_nothing : (o : Option ℕ) → is_none o ≡ true → o ≡ None
+is_nothing None h = refl
+is_nothing (Some x) h = absurd (cc)
+
 -- the timestamps of partials of one table say whether these are in a span
 times_tell : (table lo hi : ℕ) (es : List (Key × Partial)) → AllByRecursion (IsOf table) es → filter (λ (e : Key × Partial). leb lo e.0.ts && leb e.0.ts hi) es ≡ only (in_span table lo hi) es
 times_tell table lo hi es h =
@@ -99,14 +103,10 @@ module _ (table : ℕ) (kinds : List Kind) (lo hi : ℕ) (g : hi ≤ last_ts) wh
   pub bytes_part : (kept : Kept) (all : List ℕ) → is_none (fault_of (whole table kinds) kept all) ≡ true → bytes_layer near kept all ≡ narrowed (in_span table lo hi) (bytes_layer (whole table kinds) kept all)
   bytes_part InMemory all none = refl
   bytes_part InSttFile all none =
-      let part = stt_part table kinds 0 lo hi last_ts (omega arith) g all in
+      let part = stt_part table kinds 0 lo hi last_ts (omega arith) g all (is_nothing (stt_scanned (stt_want (whole table kinds)) all).fault none) in
       let partials = ap (λ (w : SttWalked). w.partials) part ∙ times_tell table lo hi (stt_scanned (stt_want (whole table kinds)) all).partials (stt_of (stt_want (whole table kinds)) all) in
       λ i. record { cuts = (bytes_layer near InSttFile all).cuts; partials = partials i }
   bytes_part InDataFile all none =
       let part = data_part table kinds 0 lo hi last_ts (omega arith) g all (is_nothing (data_scanned (data_want (whole table kinds)) all).fault none) in
       let partials = ap (λ (w : DataWalked). w.partials) part ∙ times_tell table lo hi (data_scanned (data_want (whole table kinds)) all).partials (data_of (data_want (whole table kinds)) all) in
       λ i. record { cuts = []; partials = partials i }
-    where
-      is_nothing : (o : Option ℕ) → is_none o ≡ true → o ≡ None
-      is_nothing None h = refl
-      is_nothing (Some x) h = absurd (cc)

@@ -11,6 +11,7 @@ use Rattle.td_memtree.specs.Within.{pairs_within}
 use Rattle.td_memtable.specs.Contents.{Contents, key_at, table_cuts}
 use Rattle.td_fileio.specs.Days.{day_start, day_end, is_in_day}
 use Rattle.td_sttfile.specs.Scanned.{Want as SttWant, scanned as stt_scanned, cuts_of_file}
+use Rattle.td_sttfile.specs.Ranges.{faults_of as stt_faults}
 use Rattle.td_datafile.specs.Scanned.{Want as DataWant, scanned as data_scanned}
 use Rattle.td_datafile.specs.Ranges.{faults_of as data_faults}
 use Rattle.td_fileset.specs.Stack.{Layer, rows_of}
@@ -182,7 +183,7 @@ held_told s table lo hi = held_of s table lo hi (lookup (λ (t : ℕ). t == tabl
 -- the places at which scans of a table can find damaged bytes of a file
 abbrev pub places_in : Span → Kept → ℕ → List ℕ → Places
 places_in s InMemory file all = []
-places_in s InSttFile file all = map (λ (at : ℕ). (file, at)) (listed (stt_scanned (stt_want s) all).fault)
+places_in s InSttFile file all = map (λ (at : ℕ). (file, at)) (stt_faults s.table s.kinds all)
 places_in s InDataFile file all = map (λ (at : ℕ). (file, at)) (data_faults s.table s.kinds all)
 
 -- The damaged places of files, where each tells its bytes.

@@ -79,7 +79,7 @@ pub trait RowScan {
 
 /// Rows as they stood at one moment, over layers of which the newer go over the older.
 pub trait Snapshot {
-    /// The rows, where they are told.
+    /// The rows, where they are told, in the order of their keys.
     ghost rows: { Self → Option (List (Key × Row)) };
 
     /// How many partials the layers hold of a table, by number, from one timestamp to another, where it is told.
@@ -103,6 +103,7 @@ pub trait Snapshot {
         steps: &mut Steps<L>,
     ) -> Result<Seq<(u64, Row)>, ScanFault>
         ensures found { IfOk result (λ found. IfSome (rows self.old) (λ all. found ≡ rows_in table lo hi all)) }
+        ensures in_order { IfSome (rows self.old) InKeyOrder }
         ensures values { IfOk result (AllByRecursion (λ row. AreColumnValues row.1.values)) }
         ensures least_steps { IfOk result (λ found. steps.old + length found ≤ steps.new) }
         ensures most_steps { IfSome (held self.old table lo hi) (λ n. steps.new ≤ steps.old + n) }

@@ -1,5 +1,7 @@
 -- Rows with values such as columns hold.
-use Rattle.std.proofs.Common.{◌++◌, ◌∷◌, [], ℕ, List, Bool, true, false, cond, ◌&&◌, ◌==◌, nat_le, map, filter}
+use Rattle.std.proofs.Common.{◌++◌, ◌∷◌, [], ℕ, List, Bool, true, false, cond, ◌&&◌, ◌==◌, nat_le, map, filter, take, drop}
+use Rattle.std.specs.Prelude.{insert}
+use Rattle.std.proofs.lemmas.List.Elements.{All-append, All-cons, All-drop, All-take, All-from_recursion, recursion_from_All}
 use Rattle.std.specs.List.{AllByRecursion}
 use Rattle.td_layer.specs.Columns.{IsColumnValue, AreColumnValues}
 use Rattle.td_layer.specs.Scans.{rows_in}
@@ -23,3 +25,10 @@ module _ (table lo hi : ℕ) where
 pub one_more : (vs : List Value) (v : Value) → AreColumnValues vs → IsColumnValue v → AreColumnValues (vs ++ v ∷ [])
 one_more [] v all new = (new, tt)
 one_more (w ∷ vs) v all new = (all.0, one_more vs v all.1 new)
+
+-- an item that is put in passes too
+pub all_insert : {X : Type 0} (P : X → Type 0) (xs : List X) (at : ℕ) (x : X) → AllByRecursion P xs → P x → AllByRecursion P (insert xs at x)
+all_insert P xs at x all one =
+    let old = All-from_recursion P xs all in
+    recursion_from_All P (take at xs ++ x ∷ drop at xs)
+    (All-append P (take at xs) (x ∷ drop at xs) (All-take P at xs old) (All-cons P x (drop at xs) one (All-drop P at xs old)))

@@ -9,6 +9,7 @@ use std::alloc::Global;
 use std::sync::ledger::Ledger;
 use td_cases::{CaseFault, Out};
 use td_layer::{Cell, Key, NoMem, Seq, Steps};
+use td_limits::LAST_TIMESTAMP;
 use td_model::{Column, Kind};
 
 /// The most tables of a store.
@@ -196,7 +197,7 @@ fn push_items(out: &mut Out, draws: &mut Draws, parts: &str, edges: &str) {
 
 fn push_range(out: &mut Out, draws: &mut Draws) {
     if draws.below(2) == 0 {
-        out.push(b"0..253402300799999");
+        push_number(out, "0..", LAST_TIMESTAMP);
     } else {
         push_number(out, "", u64::from(draws.below(30)));
         push_number(out, "..", u64::from(draws.below(90)));

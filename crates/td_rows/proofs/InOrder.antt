@@ -6,7 +6,7 @@ use Rattle.std.proofs.lemmas.Cmp.{nat_cmp_total, on_total, then_total, tied_itse
 use Rattle.td_layer.specs.declared.values.Key.{Key}
 use Rattle.td_model.specs.State.{key_cmp}
 
-keys_total : IsTotalOrder {K = Key} key_cmp
+pub keys_total : IsTotalOrder {K = Key} key_cmp
 keys_total = then_total (on_total (λ (k : Key). k.table) nat_cmp_total) (on_total (λ (k : Key). k.ts) nat_cmp_total)
 
 pub same_key : (key : Key) → key_cmp key key ≡ Equal

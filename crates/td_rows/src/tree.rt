@@ -1,5 +1,6 @@
 //! Rows in a persistent tree.
 ghost use Rattle.std.specs.Prelude.{◌≡◌, [], IfOk, OnOk, filter, not, nat_le};
+ghost use Rattle.td_layer.specs.Keys.{InKeyOrder};
 ghost use Rattle.td_model.specs.State.{is_cut};
 ghost use Rattle.td_rows.specs.Puts.{row_after, rows_after};
 
@@ -22,11 +23,14 @@ pub struct RowTree {
 }
 
 impl Model for RowTree {
+    ghost use Rattle.td_layer.specs.Keys.{InKeyOrder};
     ghost use Rattle.td_model.specs.State.{Rows};
 
     ghost Value = { Rows };
 
     ghost view = { λ r. r.tree };
+
+    ghost invariant = { λ r. InKeyOrder r.tree };
 }
 
 impl RowTree {
@@ -40,9 +44,10 @@ impl RowTree {
         }
     }
 
-    /// The same rows, of the same nodes: the root alone is shared.
+    /// The same rows, of the same nodes: the root alone is shared. They stand in the order of their keys.
     pub fn share(&self) -> Result<RowTree, NoMem>
-        ensures { IfOk result (λ t. t ≡ self.now) }
+        ensures same { IfOk result (λ t. t ≡ self.now) }
+        ensures in_order { InKeyOrder self.now }
     {
         let tree = self.tree.share()?;
         Ok(RowTree {

@@ -22,13 +22,14 @@ pub struct RowView {
 impl Model for RowView {
     ghost use Rattle.std.specs.List.{AllByRecursion};
     ghost use Rattle.td_layer.specs.Columns.{AreColumnValues};
+    ghost use Rattle.td_layer.specs.Keys.{InKeyOrder};
     ghost use Rattle.td_model.specs.State.{Rows};
 
     ghost Value = { Rows };
 
     ghost view = { λ v. v.rows };
 
-    ghost invariant = { λ v. AllByRecursion (λ e. AreColumnValues e.1.values) v.rows };
+    ghost invariant = { λ v. AllByRecursion (λ e. AreColumnValues e.1.values) v.rows × InKeyOrder v.rows };
 }
 
 impl RowView {

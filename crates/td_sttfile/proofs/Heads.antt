@@ -1,9 +1,9 @@
 -- The head of a block in a part of a file, and places of faults in parts.
-use Rattle.std.proofs.Common.{◌≡◌, ℕ, ◌+◌, ◌-◌, ◌*◌, ◌≤◌, ◌^◌, true, ltb, leb, eqb, List, [], ◌++◌, length, take, drop, None, Result, Ok, Err, refl, sym, ap, subst, ◌∙◌, arith}
+use Rattle.std.proofs.Common.{◌≡◌, ℕ, ◌+◌, ◌-◌, ◌*◌, ◌≤◌, ◌^◌, true, ltb, leb, eqb, List, ◌++◌, length, None, Result, Ok, Err, refl, sym, ap, subst, ◌∙◌, arith}
 use Rattle.std.specs.Prelude.{◌&&◌, sum_by}
 use Rattle.std.specs.Int.{w16, w32, to_le_bytes}
 use Rattle.std.proofs.lemmas.Bool.{and_parts, eqb-true, leb-true}
-use Rattle.std.proofs.lemmas.List.{append-nil, length-append, length-take, drop-drop, nil_from_length}
+use Rattle.std.proofs.lemmas.List.{length-append}
 use Rattle.td_limits.specs.declared.limits.TheConstants.{BLOCK_ROWS}
 use Rattle.td_cols.specs.declared.kinds.Kind.{Kind}
 use Rattle.td_cols.specs.Spelling.{AreBytes}
@@ -13,10 +13,10 @@ use Rattle.td_block.specs.declared.header.Head.{Head}
 use Rattle.td_block.specs.declared.header.TheConstants.{BLOCK_MAGIC}
 use Rattle.td_block.specs.Rows.{CanHold}
 use Rattle.td_block.specs.Blocks.{Held, Begins, head, block, placed, decoded}
-use Rattle.td_block.specs.Headers.{column_length, head_parts, head_found}
+use Rattle.td_block.specs.Headers.{column_length, head_found}
 use Rattle.td_block.proofs.BlockLaws.{head_spells}
 use Rattle.td_block.proofs.HeaderLaws.{block_size}
-use Rattle.td_sttfile.specs.Blocks.{HasHead, IsHeadOf, moved}
+use Rattle.td_sttfile.specs.Blocks.{moved}
 
 abbrev HeadParts : Type 0
 HeadParts = ℕ × (ℕ × (ℕ × ℕ))
@@ -62,9 +62,10 @@ head_fits h e =
 abbrev found : Head → Result Head ℕ
 found h = Ok h
 
-pub is_head : (part : List ℕ) (h : Head) → AreBytes part → head_found part ≡ Ok h → IsHeadOf part h
-is_head part h are e = of_read ((head None).read part) refl (sym (head_is part) ∙ e) where
-  of_read : (r : Read HeadParts) → (head None).read part ≡ r → placed part (λ (h : HeadParts) _. head_view h) r ≡ Ok h → IsHeadOf part h
+-- a head that was read has 14 bytes, and says that there is a row
+pub head_says : (part : List ℕ) (h : Head) → AreBytes part → head_found part ≡ Ok h → (1 ≤ h.rows) × (14 ≤ length part)
+head_says part h are e = of_read ((head None).read part) refl (sym (head_is part) ∙ e) where
+  of_read : (r : Read HeadParts) → (head None).read part ≡ r → placed part (λ (h : HeadParts) _. head_view h) r ≡ Ok h → (1 ≤ h.rows) × (14 ≤ length part)
   of_read (Err left) read p = absurd (wrong p) where
     wrong : placed part (λ (h : HeadParts) _. head_view h) (Err left) ≡ Ok h → ⊥
     wrong q = cc
@@ -72,26 +73,9 @@ is_head part h are e = of_read ((head None).read part) refl (sym (head_is part) 
       let t = (head_spells None).takes part x are read in
       let f = head_fits x.0 t.1 in
       let seen : head_view x.0 ≡ h = inside p in
-      let same : x.0 ≡ head_parts h = ap (λ (m : ℕ). (m, x.0.1)) f.0 ∙ ap head_parts seen in
-      record {
-        rest = x.1;
-        parts = t.0.parts ∙ ap (λ (y : HeadParts). (head None).spelled y ++ x.1) same;
-        fits = subst (λ (y : HeadParts). (head None).fits y ≡ true) same t.1;
-        some = subst (λ (y : Head). 1 ≤ y.rows) seen f.1;
-        long = omega (arith, ap length t.0.parts, length-append ((head None).spelled x.0) x.1, head_length x.0);
-      } where
+      (subst (λ (y : Head). 1 ≤ y.rows) seen f.1, omega (arith, ap length t.0.parts, length-append ((head None).spelled x.0) x.1, head_length x.0)) where
         inside : found (head_view x.0) ≡ found h → head_view x.0 ≡ h
         inside q = cc
-
--- a head of a part of 14 bytes is one in the file
-pub head_in_file : (at : ℕ) (all part : List ℕ) (h : Head) → part ≡ take 14 (drop at all) → IsHeadOf part h → HasHead (drop at all) (drop (at + 14) all) h
-head_in_file at all part h ep is =
-    let front = (head None).spelled (head_parts h) in
-    let none : is.rest ≡ [] = nil_from_length is.rest (omega (arith, ap length is.parts, length-append front is.rest, head_length (head_parts h), ap length ep, length-take 14 (drop at all))) in
-    let whole : part ≡ front = is.parts ∙ ap (λ (l : List ℕ). front ++ l) none ∙ append-nil front in
-    let split : drop at all ≡ front ++ drop (at + 14) all =
-    sym (Rattle.std.proofs.lemmas.List.take-append-drop 14 (drop at all)) ∙ ap (λ (l : List ℕ). l ++ drop 14 (drop at all)) (sym ep ∙ whole) ∙ ap (λ (l : List ℕ). front ++ l) (drop-drop 14 at all) in
-    record { read = ap (head None).read split ∙ (head_spells None).again (head_parts h) (drop (at + 14) all) is.fits }
 
 -- ---- places of faults
 

@@ -6,6 +6,8 @@ pub mod Narrow
 pub mod Numbers
 pub mod Openings
 pub mod Order
+pub mod Passing
+pub mod Taking
 pub mod States
 pub mod Tables
 pub mod Walks

@@ -17,7 +17,7 @@ use Rattle.td_block.specs.Headers.{passed}
 
 -- ---- numbers
 
-abbrev num : Width → List ℕ → Read ℕ
+abbrev pub num : Width → List ℕ → Read ℕ
 num w bytes = Ok (from_le_bytes w (take (byte_len w) bytes), drop (byte_len w) bytes)
 
 number_is : (w : Width) (bytes : List ℕ) → number_read w bytes ≡ cond (ltb (length bytes) (byte_len w)) (Err (length bytes)) (num w bytes)
@@ -25,7 +25,7 @@ unfolding number_read
 number_is w bytes = refl
 
 -- a number that was read is long enough
-long_enough : (w : Width) (bytes : List ℕ) (x : ℕ × List ℕ) → number_read w bytes ≡ Ok x → byte_len w ≤ length bytes
+pub long_enough : (w : Width) (bytes : List ℕ) (x : ℕ × List ℕ) → number_read w bytes ≡ Ok x → byte_len w ≤ length bytes
 long_enough w bytes x e = by_test (ltb (length bytes) (byte_len w)) refl where
   by_test : (b : Bool) → ltb (length bytes) (byte_len w) ≡ b → byte_len w ≤ length bytes
   by_test true t = absurd (wrong (sym (ap (λ (c : Bool). cond c (Err (length bytes)) (num w bytes)) t) ∙ sym (number_is w bytes) ∙ e)) where
@@ -43,7 +43,7 @@ too_short w bytes left e = by_test (ltb (length bytes) (byte_len w)) refl where
     same : cond true (Err (length bytes)) (num w bytes) ≡ Err left → left ≡ length bytes
     same q = cc
 
-reads_long : (w : Width) (bytes : List ℕ) → byte_len w ≤ length bytes → number_read w bytes ≡ num w bytes
+pub reads_long : (w : Width) (bytes : List ℕ) → byte_len w ≤ length bytes → number_read w bytes ≡ num w bytes
 reads_long w bytes le =
     let t : ltb (length bytes) (byte_len w) ≡ false = grind (arith, nat_tests) in
     number_is w bytes ∙ ap (λ (c : Bool). cond c (Err (length bytes)) (num w bytes)) t

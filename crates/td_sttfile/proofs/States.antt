@@ -22,7 +22,7 @@ use Rattle.td_sttfile.specs.Scanned.{Want, Walked, nothing_left, keyed, walk, be
 use Rattle.td_fileio.specs.Reading.{IsAhead}
 use Rattle.td_layer.specs.Columns.{AreColumnCells}
 use Rattle.std.proofs.lemmas.Bool.{false≢true}
-use Rattle.td_sttfile.specs.Scanning.{left_at, left_with, left_of, Keeps, IsNextRow, IsFault, Faults, IsOpen, IsScan}
+use Rattle.td_sttfile.specs.Scanning.{left_at, left_with, left_of, Keeps, IsNextRow, IsFault, Faults, IsOpen, IsScan, ComesLast}
 use Rattle.td_sttfile.proofs.Walks.{walk_ends, scanned_rises}
 
 abbrev Pairs : Type 0
@@ -102,6 +102,27 @@ later_fault want told file cuts spot (scans.Damaged n place) o f = (
   told_2 told (IsOpen want cuts spot) (IsFault want spot place) (λ all. (scanned want all).fault ≡ Some place) (λ all p q. sym p.fault_is ∙ q.fault) o f.1,
 )
 later_fault want told file cuts spot scans.NoMemory o f = tt
+
+-- ---- no partial is left before damaged bytes
+
+pub opening_last : (want : Want) (told : Option (List ℕ)) (file : ℕ) (begun : Bool) (rows : Rows) (spot : Spot) (e : ScanFault) → begun ≡ false → GivesPlaced (λ (x : Opening × ℕ). (opening_parts x.0, x.1)) told file (Err e) opening_at → ComesLast (left_of want told begun rows spot) e
+unfolding scanned
+opening_last want told file begun rows spot scans.ReadFault fresh g = tt
+opening_last want told file begun rows spot (scans.Damaged n place) fresh g = subst (λ (b : Bool). IfSome (left_of want told b rows spot) (λ l. l ≡ [])) (sym fresh) (by_told told g.1)
+  where
+    by_told : (t : Option (List ℕ)) → IfSome t (λ all. opening_at all ≡ Err place) → IfSome (left_of want t false rows spot) (λ l. l ≡ [])
+    by_told None h = tt
+    by_told (Some all) h = ap (λ (o : Placed (ℕ × (ℕ × (List FileCut × ℕ)))). (behind_opening want all o).partials) h
+opening_last want told file begun rows spot scans.NoMemory fresh g = tt
+
+pub later_last : (want : Want) (told : Option (List ℕ)) (file : ℕ) (begun : Bool) (rows rows' : Rows) (spot spot' : Spot) (e : ScanFault) → begun ≡ true → IfSome told (Keeps want rows rows' spot spot') → rows' ≡ [] → Faults want told file spot' e → ComesLast (left_of want told begun rows spot) e
+later_last want told file begun rows rows' spot spot' scans.ReadFault b k none f = tt
+later_last want told file begun rows rows' spot spot' (scans.Damaged n place) b k none f = subst (λ (t : Bool). IfSome (left_of want told t rows spot) (λ l. l ≡ [])) (sym b) (by_told told k f.1)
+  where
+    by_told : (t : Option (List ℕ)) → IfSome t (Keeps want rows rows' spot spot') → IfSome t (IsFault want spot' place) → IfSome (left_of want t true rows spot) (λ l. l ≡ [])
+    by_told None k h = tt
+    by_told (Some all) k h = sym k.partials ∙ ap (λ (l : Rows). left_with want l spot' all) none ∙ h.none
+later_last want told file begun rows rows' spot spot' scans.NoMemory b k none f = tt
 
 -- ---- a scan that has begun
 

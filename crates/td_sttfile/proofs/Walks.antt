@@ -1,6 +1,7 @@
 -- What reading one block after the other gives.
-use Rattle.std.proofs.Common.{◌≡◌, ℕ, zero, suc, ◌+◌, ◌-◌, ◌<◌, ◌≤◌, Bool, true, false, cond, ltb, List, [], ◌∷◌, ◌++◌, length, take, drop, reverse, Option, Some, None, Result, Ok, Err, refl, sym, ap, subst, ◌∙◌, arith}
+use Rattle.std.proofs.Common.{◌≡◌, ℕ, zero, suc, ◌+◌, ◌-◌, ◌*◌, ◌<◌, ◌≤◌, Bool, true, false, cond, ltb, List, [], ◌∷◌, ◌++◌, length, take, drop, reverse, ◌&&◌, Option, Some, None, Result, Ok, Err, refl, sym, ap, subst, ◌∙◌, arith}
 use Rattle.std.specs.List.{AllByRecursion, filter}
+use Rattle.std.proofs.lemmas.Bool.{and_parts}
 use Rattle.std.proofs.lemmas.Bool.Decides.{nat_tests}
 use Rattle.std.proofs.lemmas.List.{reverse-reverse, reverse-append}
 use Rattle.td_cols.specs.declared.kinds.Kind.{Kind}
@@ -13,20 +14,20 @@ use Rattle.td_codec.specs.Fields.{◌>>=◌, Read}
 use Rattle.td_codec.proofs.FieldLaws.{bind_ok, passed, passed_by}
 use Rattle.td_block.specs.declared.block.Block.{Block}
 use Rattle.td_block.specs.declared.header.Head.{Head}
-use Rattle.td_block.specs.declared.header.Header.{Header}
 use Rattle.td_block.specs.Rows.{Rows}
 use Rattle.td_block.specs.Blocks.{decoded}
-use Rattle.td_block.specs.Headers.{head_found, header_read}
+use Rattle.td_block.specs.Headers.{head_found}
+use Rattle.td_fileio.specs.Days.{is_in_day}
 use Rattle.td_fileio.specs.Places.{Placed, GivesPlaced}
 use Rattle.td_fileio.proofs.ReadLaws.{told_1}
 use Rattle.td_sttfile.specs.declared.format.FileCut.{FileCut}
 use Rattle.td_sttfile.specs.declared.blocks.Found.{Found}
 use Rattle.td_sttfile.specs.declared.blocks.Spot.{Spot}
 use Rattle.td_sttfile.specs.Opening.{opening_at}
-use Rattle.td_sttfile.specs.Blocks.{is_behind, rows_checked, moved, own_length, own_found, own_at, Ends, ends_of, ends_read, passed_over, other_at, found_at, block_at}
+use Rattle.td_sttfile.specs.Blocks.{is_behind, rows_checked, moved, own_length, own_found, own_at, Ends, ends_read, rest_read, passed_found, passed_at, other_found, is_outside, wanted_found, found_at, block_at}
 use Rattle.td_sttfile.specs.Scanned.{Want, wanted_of, keyed, Walked, nothing_left, then_walk, walk, before_all, behind_opening, scanned}
 use Rattle.td_sttfile.specs.Scanning.{left_at, left_with, Keeps, IsFault, Faults}
-use Rattle.td_sttfile.proofs.Headers.{header_rises}
+use Rattle.td_sttfile.proofs.Headers.{ends_rise}
 use Rattle.td_sttfile.proofs.Order.{ComeBehind, none_come, come_before, rows_come, behind_is_less}
 
 -- ---- lists
@@ -53,18 +54,18 @@ all_of_reversed {A} P xs ys e h = subst (λ (l : List A). AllByRecursion P l) (a
 
 -- ---- one block more
 
-walk_next : (want : Want) (range : ℕ) (all : List ℕ) (blocks at : ℕ) (last : Key) → 0 < blocks → walk want range all blocks at last ≡ then_walk want (walk want range all (blocks - 1)) (block_at want.kinds want.table range last at all)
+walk_next : (want : Want) (range : ℕ) (all : List ℕ) (blocks at : ℕ) (last : Key) → 0 < blocks → walk want range all blocks at last ≡ then_walk want (walk want range all (blocks - 1)) (block_at want.kinds want.table want.lo want.hi range last at all)
 unfolding walk
 walk_next want range all zero at last lt = absurd (omega arith)
 walk_next want range all (suc n) at last lt =
     let e : n ≡ suc n - 1 = omega arith in
-    ap (λ (k : ℕ). then_walk want (walk want range all k) (block_at want.kinds want.table range last at all)) e
+    ap (λ (k : ℕ). then_walk want (walk want range all k) (block_at want.kinds want.table want.lo want.hi range last at all)) e
 
 pub walk_ends : (want : Want) (range : ℕ) (all : List ℕ) (at : ℕ) (last : Key) → walk want range all 0 at last ≡ nothing_left
 unfolding walk
 walk_ends want range all at last = refl
 
-left_next : (want : Want) (spot : Spot) (all : List ℕ) (r : Result (Option Found) ℕ) → 0 < spot.blocks → block_at want.kinds want.table spot.range spot.last spot.at all ≡ r → left_at want spot all ≡ then_walk want (walk want spot.range all (spot.blocks - 1)) r
+left_next : (want : Want) (spot : Spot) (all : List ℕ) (r : Result (Option Found) ℕ) → 0 < spot.blocks → block_at want.kinds want.table want.lo want.hi spot.range spot.last spot.at all ≡ r → left_at want spot all ≡ then_walk want (walk want spot.range all (spot.blocks - 1)) r
 left_next want spot all r some e = walk_next want spot.range all spot.blocks spot.at spot.last some ∙ ap (λ (q : Result (Option Found) ℕ). then_walk want (walk want spot.range all (spot.blocks - 1)) q) e
 
 abbrev pub spot_behind : Spot → Found → Spot
@@ -73,7 +74,7 @@ spot_behind spot f = record { range = spot.range; blocks = spot.blocks - 1; at =
 abbrev pub spot_ended : Spot → Spot
 spot_ended spot = record { range = spot.range; blocks = 0; at = spot.at; last = spot.last }
 
-pub read_some : (want : Want) (rows stack : Rows) (spot : Spot) (f : Found) (all : List ℕ) → 0 < spot.blocks → rows ≡ [] → reverse stack ≡ wanted_of want.lo want.hi f.rows → block_at want.kinds want.table spot.range spot.last spot.at all ≡ Ok (Some f)
+pub read_some : (want : Want) (rows stack : Rows) (spot : Spot) (f : Found) (all : List ℕ) → 0 < spot.blocks → rows ≡ [] → reverse stack ≡ wanted_of want.lo want.hi f.rows → block_at want.kinds want.table want.lo want.hi spot.range spot.last spot.at all ≡ Ok (Some f)
     → Keeps want rows stack spot (spot_behind spot f) all
 read_some want rows stack spot f all some none picked e =
     let next = left_next want spot all (Ok (Some f)) some e in
@@ -82,7 +83,7 @@ read_some want rows stack spot f all some none picked e =
     let old : left_with want rows spot all ≡ keyed want.table (wanted_of want.lo want.hi f.rows) ++ others.partials = ap (λ (l : Rows). keyed want.table (reverse l) ++ (left_at want spot all).partials) none ∙ ap (λ (w : Walked). w.partials) next in
     record { partials = new ∙ sym old; fault = sym (ap (λ (w : Walked). w.fault) next) }
 
-pub read_none : (want : Want) (rows : Rows) (spot : Spot) (all : List ℕ) → 0 < spot.blocks → block_at want.kinds want.table spot.range spot.last spot.at all ≡ Ok None → Keeps want rows rows spot (spot_ended spot) all
+pub read_none : (want : Want) (rows : Rows) (spot : Spot) (all : List ℕ) → 0 < spot.blocks → block_at want.kinds want.table want.lo want.hi spot.range spot.last spot.at all ≡ Ok None → Keeps want rows rows spot (spot_ended spot) all
 read_none want rows spot all some e =
     let next = left_next want spot all (Ok None) some e in
     let ended : left_at want (spot_ended spot) all ≡ nothing_left = walk_ends want spot.range all spot.at spot.last in
@@ -91,11 +92,11 @@ read_none want rows spot all some e =
       fault = ap (λ (w : Walked). w.fault) (ended ∙ sym next);
     }
 
-pub read_fault : (want : Want) (told : Option (List ℕ)) (file : ℕ) (spot : Spot) (e : ScanFault) → 0 < spot.blocks → GivesPlaced (λ (f : Option Found). f) told file (Err e) (block_at want.kinds want.table spot.range spot.last spot.at) → Faults want told file spot e
+pub read_fault : (want : Want) (told : Option (List ℕ)) (file : ℕ) (spot : Spot) (e : ScanFault) → 0 < spot.blocks → GivesPlaced (λ (f : Option Found). f) told file (Err e) (block_at want.kinds want.table want.lo want.hi spot.range spot.last spot.at) → Faults want told file spot e
 read_fault want told file spot scans.ReadFault some g = tt
 read_fault want told file spot (scans.Damaged n place) some g = (
   g.0,
-  told_1 told (λ all. block_at want.kinds want.table spot.range spot.last spot.at all ≡ Err place) (IsFault want spot place) (λ all e. record { fault = ap (λ (w : Walked). w.fault) (left_next want spot all (Err place) some e) }) g.1,
+  told_1 told (λ all. block_at want.kinds want.table want.lo want.hi spot.range spot.last spot.at all ≡ Err place) (IsFault want spot place) (λ all e. let next = left_next want spot all (Err place) some e in record { fault = ap (λ (w : Walked). w.fault) next; none = ap (λ (w : Walked). w.partials) next }) g.1,
 )
 read_fault want told file spot scans.NoMemory some g = tt
 
@@ -123,17 +124,24 @@ Continues table lo hi last xs f = ComeBehind f.last xs → ComeBehind last (keye
 later : (last : Key) (t a b : ℕ) → is_behind last (record { table = t; ts = a }) ≡ true → a ≤ b → is_behind last (record { table = t; ts = b }) ≡ true
 later last t a b p le = grind (arith, nat_tests)
 
-other_come : (table lo hi size at : ℕ) (last : Key) (r : Read Ends) (f : Found) (xs : List (Key × Partial)) → ((e : Ends × List ℕ) → r ≡ Ok e → e.0.1 ≤ e.0.2) → passed_over size last at r ≡ Ok f → Continues table lo hi last xs f
-other_come table lo hi size at last (Err left) f xs rises e = absurd (wrong e) where
-  wrong : passed_over size last at (Err left) ≡ Ok f → ⊥
+by_come : (table lo hi size : ℕ) (last : Key) (head : Head) (ends : Ends) (r : Read (Unit {0})) (f : Found) (xs : List (Key × Partial)) → is_behind last (record { table = head.table; ts = ends.1 }) ≡ true → passed_found size head ends r ≡ Ok f → Continues table lo hi last xs f
+by_come table lo hi size last head ends (Err left) f xs behind e = absurd (wrong e) where
+  wrong : passed_found size head ends (Err left) ≡ Ok f → ⊥
   wrong q = cc
-other_come table lo hi size at last (Ok x) f xs rises e =
-    let first : Key = record { table = x.0.0; ts = x.0.1 } in
-    let end : Key = record { table = x.0.0; ts = x.0.2 } in
+by_come table lo hi size last head ends (Ok x) f xs behind e =
+    let end : Key = record { table = head.table; ts = ends.1 } in
     let given : Found = record { rows = []; next = size - length x.1; last = end } in
-    let t = passed (is_behind last first) (at + 14) (found given) f e in
-    let behind : is_behind last end ≡ true = later last x.0.0 x.0.1 x.0.2 t.0 (rises x refl) in
-    subst (Continues table lo hi last xs) (same_found given f t.1) (λ h. come_before last end xs (behind_is_less last end behind) h)
+    subst (Continues table lo hi last xs) (same_found given f e) (λ h. come_before last end xs (behind_is_less last end behind) h)
+
+passed_come : (given : List Kind) (table lo hi range at : ℕ) (last : Key) (head : Head) (ends : Ends) (rest all : List ℕ) (f : Found) (xs : List (Key × Partial)) → ends.0 ≤ ends.1 → passed_at given range last head ends rest at all ≡ Ok f → Continues table lo hi last xs f
+unfolding passed_at
+passed_come given table lo hi range at last head ends rest all f xs le e =
+    let first : Key = record { table = head.table; ts = ends.0 } in
+    let r = passed_found (length all) head ends (rest_read given head rest) in
+    let t = passed (is_behind last first && is_in_day range ends.0) (at + 14) (cond (is_in_day range ends.1) r (Err (at + 14 + 8 * (head.rows - 1)))) f e in
+    let u = passed (is_in_day range ends.1) (at + 14 + 8 * (head.rows - 1)) r f t.1 in
+    let behind = (and_parts (is_behind last first) (is_in_day range ends.0) t.0).0 in
+    by_come table lo hi (length all) last head ends (rest_read given head rest) f xs (later last head.table ends.0 ends.1 behind le) u.1
 
 own_come : (table lo hi range at : ℕ) (last : Key) (b : Block) (f : Found) (xs : List (Key × Partial)) → own_found table range last at b ≡ Ok f → Continues table lo hi last xs f
 own_come table lo hi range at last b f xs e =
@@ -141,50 +149,54 @@ own_come table lo hi range at last b f xs e =
     let given : Found = record { rows = b.rows; next = at + b.used; last = t.0 } in
     subst (Continues table lo hi last xs) (same_found given f t.2) (λ h. rows_come range table lo hi b.rows last t.0 (at + 14) xs t.1 h)
 
-ends_rise : (bytes : List ℕ) (e : Ends × List ℕ) → ends_read bytes ≡ Ok e → e.0.1 ≤ e.0.2
-ends_rise bytes e q =
-    let t = bind_ok (header_read bytes) ends_of e q in
-    at_ends t.0 t.2 (header_rises bytes t.0 t.1) where
-      at_ends : (h : Header × List ℕ) → ends_of h ≡ Ok e → h.0.first ≤ h.0.last → e.0.1 ≤ e.0.2
-      at_ends h r le =
-          let a : h.0.first ≡ e.0.1 = ap (λ (s : Read Ends). first_in s) r in
-          let b : h.0.last ≡ e.0.2 = ap (λ (s : Read Ends). last_in s) r in
-          omega arith where
-            first_in : Read Ends → ℕ
-            first_in (Ok y) = y.0.1
-            first_in (Err left) = 0
+decoded_come : (kinds : List Kind) (table lo hi range at : ℕ) (last : Key) (h : Head) (all : List ℕ) (f : Found) (xs : List (Key × Partial)) → own_at kinds table range last h at all ≡ Ok f → Continues table lo hi last xs f
+unfolding own_at
+decoded_come kinds table lo hi range at last h all f xs e =
+    let t = bind_ok (moved at (decoded kinds (take (own_length kinds h) (drop at all)))) (own_found table range last at) f e in
+    own_come table lo hi range at last t.0 f xs t.2
 
-            last_in : Read Ends → ℕ
-            last_in (Ok y) = y.0.2
-            last_in (Err left) = 0
+other_come : (table lo hi range at : ℕ) (last : Key) (h : Head) (all : List ℕ) (r : Read Ends) (f : Found) (xs : List (Key × Partial)) → ((e : Ends × List ℕ) → r ≡ Ok e → e.0.0 ≤ e.0.1) → other_found range last h at all r ≡ Ok f → Continues table lo hi last xs f
+other_come table lo hi range at last h all (Err left) f xs rises e = absurd (wrong e) where
+  wrong : other_found range last h at all (Err left) ≡ Ok f → ⊥
+  wrong q = cc
+other_come table lo hi range at last h all (Ok x) f xs rises e = passed_come [] table lo hi range at last h x.0 x.1 all f xs (rises x refl) e
 
-found_come : (kinds : List Kind) (table lo hi range at : ℕ) (last : Key) (h : Head) (all : List ℕ) (f : Found) (xs : List (Key × Partial)) → found_at kinds table range last h at all ≡ Ok f → Continues table lo hi last xs f
-unfolding own_at other_at
+wanted_come : (kinds : List Kind) (table lo hi range at : ℕ) (last : Key) (h : Head) (all : List ℕ) (r : Read Ends) (f : Found) (xs : List (Key × Partial)) → ((e : Ends × List ℕ) → r ≡ Ok e → e.0.0 ≤ e.0.1)
+    → wanted_found kinds table lo hi range last h at all r ≡ Ok f → Continues table lo hi last xs f
+wanted_come kinds table lo hi range at last h all (Err left) f xs rises e = decoded_come kinds table lo hi range at last h all f xs e
+wanted_come kinds table lo hi range at last h all (Ok x) f xs rises e = by_test (is_outside kinds lo hi h x.0) e where
+  by_test : (b : Bool) → cond b (passed_at kinds range last h x.0 x.1 at all) (own_at kinds table range last h at all) ≡ Ok f → Continues table lo hi last xs f
+  by_test true q = passed_come kinds table lo hi range at last h x.0 x.1 all f xs (rises x refl) q
+  by_test false q = decoded_come kinds table lo hi range at last h all f xs q
+
+found_come : (kinds : List Kind) (table lo hi range at : ℕ) (last : Key) (h : Head) (all : List ℕ) (f : Found) (xs : List (Key × Partial)) → found_at kinds table lo hi range last h at all ≡ Ok f → Continues table lo hi last xs f
+unfolding found_at
 found_come kinds table lo hi range at last h all f xs e = by_test (ltb h.table table) e where
-  by_test : (b : Bool) → cond b (other_at last at all) (own_at kinds table range last h at all) ≡ Ok f → Continues table lo hi last xs f
-  by_test true q = other_come table lo hi (length all) at last (ends_read (drop at all)) f xs (ends_rise (drop at all)) q
-  by_test false q =
-      let t = bind_ok (moved at (decoded kinds (take (own_length kinds h) (drop at all)))) (own_found table range last at) f q in
-      own_come table lo hi range at last t.0 f xs t.2
+  r : Read Ends
+  r = ends_read h (drop (at + 14) all)
+
+  by_test : (b : Bool) → cond b (other_found range last h at all r) (wanted_found kinds table lo hi range last h at all r) ≡ Ok f → Continues table lo hi last xs f
+  by_test true q = other_come table lo hi range at last h all r f xs (ends_rise h (drop (at + 14) all)) q
+  by_test false q = wanted_come kinds table lo hi range at last h all r f xs (ends_rise h (drop (at + 14) all)) q
 
 -- what is behind the head
-abbrev headed : List Kind → ℕ → ℕ → Key → ℕ → List ℕ → Head → Result (Option Found) ℕ
-headed kinds table range last at all h =
-    cond (ltb h.table last.table) (Err (at + 4)) (cond (ltb table h.table) (perhaps None) (found_at kinds table range last h at all >>= λ f. perhaps (Some f)))
+abbrev headed : List Kind → ℕ → ℕ → ℕ → ℕ → Key → ℕ → List ℕ → Head → Result (Option Found) ℕ
+headed kinds table lo hi range last at all h =
+    cond (ltb h.table last.table) (Err (at + 4)) (cond (ltb table h.table) (perhaps None) (found_at kinds table lo hi range last h at all >>= λ f. perhaps (Some f)))
 
-block_come : (kinds : List Kind) (table lo hi range at : ℕ) (last : Key) (all : List ℕ) (f : Found) (xs : List (Key × Partial)) → block_at kinds table range last at all ≡ Ok (Some f) → Continues table lo hi last xs f
+block_come : (kinds : List Kind) (table lo hi range at : ℕ) (last : Key) (all : List ℕ) (f : Found) (xs : List (Key × Partial)) → block_at kinds table lo hi range last at all ≡ Ok (Some f) → Continues table lo hi last xs f
 unfolding block_at
 block_come kinds table lo hi range at last all f xs e =
-    let t = bind_ok (moved at (head_found (take 14 (drop at all)))) (headed kinds table range last at all) (Some f) e in
+    let t = bind_ok (moved at (head_found (take 14 (drop at all)))) (headed kinds table lo hi range last at all) (Some f) e in
     let h = t.0 in
-    let p = passed_by (ltb h.table last.table) (at + 4) (cond (ltb table h.table) (perhaps None) (found_at kinds table range last h at all >>= λ g. perhaps (Some g))) (Some f) t.2 in
+    let p = passed_by (ltb h.table last.table) (at + 4) (cond (ltb table h.table) (perhaps None) (found_at kinds table lo hi range last h at all >>= λ g. perhaps (Some g))) (Some f) t.2 in
     by_test h (ltb table h.table) p.1 where
-      by_test : (h : Head) (b : Bool) → cond b (perhaps None) (found_at kinds table range last h at all >>= λ g. perhaps (Some g)) ≡ perhaps (Some f) → Continues table lo hi last xs f
+      by_test : (h : Head) (b : Bool) → cond b (perhaps None) (found_at kinds table lo hi range last h at all >>= λ g. perhaps (Some g)) ≡ perhaps (Some f) → Continues table lo hi last xs f
       by_test h true q = absurd (wrong q) where
         wrong : perhaps None ≡ perhaps (Some f) → ⊥
         wrong r = cc
       by_test h false q =
-          let t = bind_ok (found_at kinds table range last h at all) (λ (g : Found). perhaps (Some g)) (Some f) q in
+          let t = bind_ok (found_at kinds table lo hi range last h at all) (λ (g : Found). perhaps (Some g)) (Some f) q in
           subst (Continues table lo hi last xs) (inside t.0 t.2) (found_come kinds table lo hi range at last h all t.0 xs t.1) where
             inside : (g : Found) → perhaps (Some g) ≡ perhaps (Some f) → g ≡ f
             inside g r = cc
@@ -192,8 +204,8 @@ block_come kinds table lo hi range at last all f xs e =
 pub walk_rises : (want : Want) (range : ℕ) (all : List ℕ) (blocks at : ℕ) (last : Key) → ComeBehind last (walk want range all blocks at last).partials
 unfolding walk
 walk_rises want range all zero at last = none_come last
-walk_rises want range all (suc n) at last = by_answer n (block_at want.kinds want.table range last at all) refl (λ next end. walk_rises want range all n next end) where
-  by_answer : (n : ℕ) (r : Result (Option Found) ℕ) → block_at want.kinds want.table range last at all ≡ r → ((next : ℕ) (end : Key) → ComeBehind end (walk want range all n next end).partials) → ComeBehind last (then_walk want (walk want range all n) r).partials
+walk_rises want range all (suc n) at last = by_answer n (block_at want.kinds want.table want.lo want.hi range last at all) refl (λ next end. walk_rises want range all n next end) where
+  by_answer : (n : ℕ) (r : Result (Option Found) ℕ) → block_at want.kinds want.table want.lo want.hi range last at all ≡ r → ((next : ℕ) (end : Key) → ComeBehind end (walk want range all n next end).partials) → ComeBehind last (then_walk want (walk want range all n) r).partials
   by_answer n (Err place) e others = none_come last
   by_answer n (Ok None) e others = none_come last
   by_answer n (Ok (Some f)) e others = block_come want.kinds want.table want.lo want.hi range at last all f (walk want range all n f.next f.last).partials e (others f.next f.last)

@@ -1,31 +1,19 @@
 -- What a scan reads of a block.
-use Rattle.std.specs.Prelude.{◌≡◌, ℕ, ◌+◌, ◌-◌, ◌==◌, ◌&&◌, ◌||◌, ◌≤◌, ◌++◌, nat_lt, Bool, true, if◌then◌else◌, List, [], ◌∷◌, length, take, drop, Option, Some, None, Result, Ok, Err}
+use Rattle.std.specs.Prelude.{ℕ, zero, suc, ◌+◌, ◌-◌, ◌*◌, ◌==◌, ◌&&◌, ◌||◌, nat_lt, Bool, if◌then◌else◌, List, [], ◌∷◌, length, take, drop, Option, Some, None, Result, Ok, Err}
+use Rattle.std.specs.Int.{w8}
 use Rattle.td_cols.specs.declared.kinds.Kind.{Kind}
+use Rattle.td_cols.specs.Kinds.{kind_code, kind_width}
 use Rattle.td_layer.specs.declared.values.Key.{Key}
 use Rattle.td_layer.specs.declared.parts.Partial.{Partial}
-use Rattle.td_codec.specs.Fields.{◌>>=◌, Read}
+use Rattle.td_codec.specs.Fields.{◌>>=◌, Read, number}
 use Rattle.td_block.specs.declared.block.Block.{Block}
 use Rattle.td_block.specs.declared.header.Head.{Head}
-use Rattle.td_block.specs.declared.header.Header.{Header}
+use Rattle.td_block.specs.Bits.{bitmap_length}
 use Rattle.td_block.specs.Rows.{Rows}
-use Rattle.td_block.specs.Blocks.{head, decoded}
-use Rattle.td_block.specs.Headers.{block_length, head_parts, head_found, header_read}
+use Rattle.td_block.specs.Blocks.{decoded}
+use Rattle.td_block.specs.Headers.{block_length, kind_of_code, kind_or_fault, passed, first_time, last_time, head_found}
 use Rattle.td_fileio.specs.Days.{is_in_day}
 use Rattle.td_sttfile.specs.declared.blocks.Found.{Found}
-
--- ---- heads
-
--- a head was read from bytes, with these behind it
-pub record HasHead (bytes rest : List ℕ) (h : Head) : Type 0 where
-  pub read : (head None).read bytes ≡ Ok (head_parts h, rest)
-
--- the head of the block that begins a part
-pub record IsHeadOf (part : List ℕ) (h : Head) : Type 0 where
-  pub rest : List ℕ
-  pub parts : part ≡ (head None).spelled (head_parts h) ++ rest
-  pub fits : (head None).fits (head_parts h) ≡ true
-  pub some : 1 ≤ h.rows
-  pub long : 14 ≤ length part
 
 -- ---- keys
 
@@ -44,7 +32,7 @@ rows_checked range table last place (row ∷ rows) =
     (if is_behind last (key_of table row) && is_in_day range row.0
     then rows_checked range table (key_of table row) (place + 8) rows else Err place)
 
--- ---- blocks
+-- ---- a block that is decoded
 
 -- what is read of a part that begins at a place
 abbrev pub moved : {A : Type 0} → ℕ → Result A ℕ → Result A ℕ
@@ -68,39 +56,96 @@ own_at kinds table range last head at all =
     moved at (decoded kinds (take (own_length kinds head) (drop at all)))
     >>= own_found table range last at
 
--- the table, the first timestamp and the last
+-- ---- a block that is passed over
+
+-- the first timestamp of a block and the last
 abbrev pub Ends : Type 0
-Ends = ℕ × ℕ × ℕ
+Ends = ℕ × ℕ
 
-abbrev pub ends_of : Header × List ℕ → Read Ends
-ends_of h = Ok ((h.0.table, h.0.first, h.0.last), h.1)
+-- The first timestamp of the block with this head, and the last, from behind the head on; those between are passed over.
+abbrev pub ends_read : Head → List ℕ → Read Ends
+ends_read head bytes = do
+  first ← first_time bytes
+  last ← last_time (head.rows - 1) first.0 first.1
+  Ok ((first.0, last.0), last.1)
 
--- the ends of a block, by its own header
-abbrev pub ends_read : List ℕ → Read Ends
-ends_read bytes = header_read bytes >>= ends_of
+-- the kind of a code, where it is that of the given kind or none is given
+abbrev pub kind_said : Option Kind → ℕ → Option Kind
+kind_said None code = kind_of_code code
+kind_said (Some kind) code = (if code == kind_code kind then kind_of_code code else None)
 
--- what is taken of a block of another table: no row, the place behind it, and its last key
-abbrev pub passed_over : ℕ → Key → ℕ → Read Ends → Result Found ℕ
-passed_over size last at (Err left) = Err (size - left)
-passed_over size last at (Ok e) =
-    (if is_behind last (record { table = e.0.0; ts = e.0.1 })
-    then Ok (record { rows = []; next = size - length e.1; last = record { table = e.0.0; ts = e.0.2 } })
+-- A column of so many rows, of the given kind where one is given: its code is read, and the rest is passed over.
+unfoldable pub column_read : Option Kind → ℕ → List ℕ → Read (Unit {0})
+column_read given rows bytes = do
+  code ← (number w8).read bytes
+  kind ← kind_or_fault (length bytes) (kind_said given code.0)
+  lanes ← passed 1 (2 * bitmap_length rows) code.1
+  rest ← passed (kind_width kind) rows lanes
+  Ok (tt, rest)
+
+-- the first of the given kinds, where there is one, and the others
+abbrev pub next_kind : List Kind → Option Kind × List Kind
+next_kind [] = (None, [])
+next_kind (kind ∷ kinds) = (Some kind, kinds)
+
+-- so many columns of so many rows, the first of the given kinds as far as these go
+unfoldable pub columns_read : ℕ → List Kind → ℕ → List ℕ → Read (Unit {0})
+columns_read rows given zero bytes = Ok (tt, bytes)
+columns_read rows given (suc columns) bytes =
+    column_read (next_kind given).0 rows bytes
+    >>= λ x. columns_read rows (next_kind given).1 columns x.1
+
+-- what stands behind the timestamps of the block with this head: the births and the columns, of which the codes are read
+abbrev pub rest_read : List Kind → Head → List ℕ → Read (Unit {0})
+rest_read given head bytes = passed 8 head.rows bytes >>= columns_read head.rows given head.columns
+
+-- the block with this head and these ends gives no row, and ends where these bytes begin
+abbrev pub passed_found : ℕ → Head → Ends → Read (Unit {0}) → Result Found ℕ
+passed_found size head ends (Err left) = Err (size - left)
+passed_found size head ends (Ok x) =
+    Ok (record { rows = []; next = size - length x.1; last = record { table = head.table; ts = ends.1 } })
+
+-- A block that is passed over: it stands at a place behind a key, with this head and these ends, behind which bytes
+-- stand. Its first key comes behind the key, and its first and its last timestamp lie in the day range.
+unfoldable pub passed_at : List Kind → ℕ → Key → Head → Ends → List ℕ → ℕ → List ℕ → Result Found ℕ
+passed_at given range last head ends rest at all =
+    (if is_behind last (record { table = head.table; ts = ends.0 }) && is_in_day range ends.0
+    then (if is_in_day range ends.1 then passed_found (length all) head ends (rest_read given head rest)
+    else Err (at + 14 + 8 * (head.rows - 1)))
     else Err (at + 14))
 
--- A block of another table, which is passed over by its own header.
-unfoldable pub other_at : Key → ℕ → List ℕ → Result Found ℕ
-other_at last at all = passed_over (length all) last at (ends_read (drop at all))
+-- ---- any block
+
+-- a block of another table is passed over by its own codes
+abbrev pub other_found : ℕ → Key → Head → ℕ → List ℕ → Read Ends → Result Found ℕ
+other_found range last head at all (Err left) = Err (length all - left)
+other_found range last head at all (Ok ends) = passed_at [] range last head ends.0 ends.1 at all
+
+-- whether the block of the table with this head, whose columns are of these kinds, can be passed over: it has so many
+-- columns, and its timestamps lie all before the first that is wanted, or all behind the last
+abbrev pub is_outside : List Kind → ℕ → ℕ → Head → Ends → Bool
+is_outside kinds lo hi head ends = (length kinds == head.columns) && (nat_lt ends.1 lo || nat_lt hi ends.0)
+
+-- A block of the table that is read: it is passed over where its ends could be read and lie outside of what is wanted,
+-- else decoded.
+abbrev pub wanted_found : List Kind → ℕ → ℕ → ℕ → ℕ → Key → Head → ℕ → List ℕ → Read Ends → Result Found ℕ
+wanted_found kinds table lo hi range last head at all (Err left) = own_at kinds table range last head at all
+wanted_found kinds table lo hi range last head at all (Ok ends) =
+    (if is_outside kinds lo hi head ends.0 then passed_at kinds range last head ends.0 ends.1 at all
+    else own_at kinds table range last head at all)
 
 -- A block of the table that is read, or of one below it, with this head.
-abbrev pub found_at : List Kind → ℕ → ℕ → Key → Head → ℕ → List ℕ → Result Found ℕ
-found_at kinds table range last head at all =
-    (if nat_lt head.table table then other_at last at all else own_at kinds table range last head at all)
+unfoldable pub found_at : List Kind → ℕ → ℕ → ℕ → ℕ → Key → Head → ℕ → List ℕ → Result Found ℕ
+found_at kinds table lo hi range last head at all =
+    (if nat_lt head.table table
+    then other_found range last head at all (ends_read head (drop (at + 14) all))
+    else wanted_found kinds table lo hi range last head at all (ends_read head (drop (at + 14) all)))
 
 -- The block at a place behind those whose last key is given: what is read of it, or nothing where it is of a table
 -- above the one that is read, behind which none of that table can stand.
-unfoldable pub block_at : List Kind → ℕ → ℕ → Key → ℕ → List ℕ → Result (Option Found) ℕ
-block_at kinds table range last at all =
+unfoldable pub block_at : List Kind → ℕ → ℕ → ℕ → ℕ → Key → ℕ → List ℕ → Result (Option Found) ℕ
+block_at kinds table lo hi range last at all =
     moved at (head_found (take 14 (drop at all)))
     >>= λ head. (if nat_lt head.table last.table then Err (at + 4)
     else (if nat_lt table head.table then Ok None
-    else (found_at kinds table range last head at all >>= λ f. Ok (Some f))))
+    else (found_at kinds table lo hi range last head at all >>= λ f. Ok (Some f))))

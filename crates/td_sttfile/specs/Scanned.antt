@@ -50,7 +50,7 @@ then_walk want others (Ok (Some f)) = record {
 unfoldable pub walk : Want → ℕ → List ℕ → ℕ → ℕ → Key → Walked
 walk want range all zero at last = nothing_left
 walk want range all (suc blocks) at last =
-    then_walk want (walk want range all blocks) (block_at want.kinds want.table range last at all)
+    then_walk want (walk want range all blocks) (block_at want.kinds want.table want.lo want.hi range last at all)
 
 -- a key before all keys of a file
 abbrev pub before_all : Key

@@ -4,16 +4,17 @@
 //! cut stands under the puts of its own file. [`write_file`] writes a list of tables with their cuts and rows.
 //! [`scan`] gives the partials of one table in a range of timestamps, by key, and the file's cuts: it reads what stands
 //! before the blocks at once, then one block after the other as rows are asked for, up to the first block of a table
-//! above. A block of another table is passed over by its own header.
+//! above. A block of another table, or one whose timestamps lie all outside the range, isn't decoded: it is passed over
+//! by its head, its first and last timestamp and its columns' codes.
 //!
 //! Promised: the bytes written are exactly those of the list, and a failure comes only where the writer's count of
 //! faults rose. A scan gives exactly what the definition of reading gives of the file's bytes, where the file tells
 //! them: the partials before the first field that is cut short or breaks its rule, in the order read, and then that
 //! place. It ends only where there is none. A reader's failure comes only where its count of faults rose. A file that
-//! was written gives what was put into it.
+//! was written gives what was put into it. Where a scan of a range finds no fault, a scan of a narrower range finds none
+//! and gives just the partials there.
 //!
-//! Not looked at: the bytes of another table's block but its head, its first and last timestamp and its columns' codes,
-//! blocks behind a table above, and the end mark.
+//! Not looked at: of a block that is passed over, all but the fields above; blocks behind a table above; the end mark.
 //!
 //! It stands on `td_fileio` for reading, writing and lists of rows, and on `td_block` for blocks.
 #![tactic(auto)]
@@ -27,7 +28,7 @@ mod scans;
 mod writing;
 
 pub use format::{FILE_END, FILE_MAGIC, FileCut};
-pub use laws::{a_range_is_part_of_the_whole, what_was_written_is_scanned};
+pub use laws::{scans_of_a_file, what_was_written_is_scanned};
 pub use scans::{FileScan, scan};
 pub use td_fileio::{RowList, TableRows};
 pub use writing::write_file;

@@ -8,7 +8,7 @@ ghost use Rattle.td_layer.specs.Keys.{InKeyOrder};
 ghost use Rattle.td_fileio.specs.Reading.{IsAhead, IsSameFile};
 ghost use Rattle.td_sttfile.specs.Opening.{as_cut};
 ghost use Rattle.td_sttfile.specs.Scanned.{wanted_of, scanned};
-ghost use Rattle.td_sttfile.specs.Scanning.{want_of, Keeps, Faults, damaged_of, cuts_of, IsNextRow, IsSameScan, IsSound};
+ghost use Rattle.td_sttfile.specs.Scanning.{want_of, Keeps, Faults, damaged_of, cuts_of, IsNextRow, IsSameScan, IsSound, ComesLast};
 
 use crate::blocks::{Found, Spot, Wanted, block_at};
 use crate::format::FileCut;
@@ -110,6 +110,7 @@ fn fill<F: FileBytes>(
     ensures values { AllByRecursion (λ row. AreColumnCells row.1.cells) rows.new }
     ensures ends { OnOk result (rows.new ≡ [] → spot.new.blocks ≡ 0) }
     ensures faults { IfErr result (Faults (want_of wanted.now) (F.bytes file.old) (F.file file.old) spot.new) }
+    ensures rows_stay { OnErr result (rows.new ≡ []) }
     ensures ahead { IsAhead (F.bytes file.new) ahead.new.from ahead.new.bytes }
     ensures file { IsSameFile (F.bytes file.old) (F.bytes file.new) (F.file file.old) (F.file file.new)
         (F.size file.old) (F.size file.new) }
@@ -201,6 +202,7 @@ impl<'a, F: FileBytes> FileScan<'a, F> {
         ensures same { IsSameScan self.old self.new }
         ensures ok { OnOk result (self.new.begun ≡ true) }
         ensures err { OnErr result (self.new.begun ≡ self.old.begun) }
+        ensures last { IfErr result (ComesLast self.old.left) }
         ensures cause { HasScanCause (damaged_of self.old) self.old.count self.new.count result }
     {
         if self.begun {
@@ -226,6 +228,7 @@ impl<'a, F: FileBytes> FileScan<'a, F> {
         ensures sound { IfOk result (λ o. o ≡ None → IsSound self.old) }
         ensures same { IsSameScan self.old self.new }
         ensures begun { self.new.begun ≡ true }
+        ensures last { IfErr result (ComesLast self.old.left) }
         ensures cause { HasScanCause (damaged_of self.old) self.old.count self.new.count result }
     {
         fill(
@@ -299,7 +302,8 @@ impl<'a, F: FileBytes> RowScan for FileScan<'a, F> {
 
     ghost count = { λ s. s.count };
 
-    /// What [`RowScan::next`] says. An end comes only where what was read has no fault.
+    /// What [`RowScan::next`] says. An end comes only where what was read has no fault, and `Damaged` only once each
+    /// partial before the damaged bytes was given.
     fn next<L: Ledger>(&mut self, steps: &mut Steps<L>) -> Result<Option<(Key, Partial)>, ScanFault>
         ensures partials { GivesFirst self.old.left self.new.left result }
         ensures in_order { IfSome self.old.left InKeyOrder }
@@ -311,6 +315,7 @@ impl<'a, F: FileBytes> RowScan for FileScan<'a, F> {
         ensures fault { HasScanCause (damaged_of self.old) self.old.count self.new.count result }
         ensures steps { steps.new ≡ steps.old + given result }
         ensures sound { IfOk result (λ o. o ≡ None → IsSound self.old) }
+        ensures last { IfErr result (ComesLast self.old.left) }
         ensures same { IsSameScan self.old self.new }
     {
         self.begin()?;

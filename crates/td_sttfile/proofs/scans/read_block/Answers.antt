@@ -19,7 +19,7 @@ returns-in-None-clause-keeps g c =
     let want = want_of c.args.wanted.now in
     let spot = c.args.spot.now in
     let read = rw c.in-None.is at c.in_ok-found.ensures.read in
-    told_1 (g.F.FileBytes.bytes c.args.file.now) (λ all. block_at want.kinds want.table spot.range spot.last spot.at all ≡ Ok None) (Keeps want c.args.rows.now c.args.rows.now spot (spot_ended spot)) (λ all e. read_none want c.args.rows.now spot all c.requires.some e) read
+    told_1 (g.F.FileBytes.bytes c.args.file.now) (λ all. block_at want.kinds want.table want.lo want.hi spot.range spot.last spot.at all ≡ Ok None) (Keeps want c.args.rows.now c.args.rows.now spot (spot_ended spot)) (λ all e. read_none want c.args.rows.now spot all c.requires.some e) read
 
 pub returns-in_ok-rows-in-Some-clause-keeps : goal.returns-in_ok-rows-in-Some-clause-keeps
 returns-in_ok-rows-in-Some-clause-keeps g c =
@@ -27,7 +27,7 @@ returns-in_ok-rows-in-Some-clause-keeps g c =
     let spot = c.args.spot.now in
     let f = c.in-Some.found in
     let read = rw c.in-Some.is at c.in_ok-found.ensures.read in
-    told_1 (g.F.FileBytes.bytes c.args.file.now) (λ all. block_at want.kinds want.table spot.range spot.last spot.at all ≡ Ok (Some f)) (Keeps want c.args.rows.now c.in_ok-rows-in-Some.field-0 spot (spot_behind spot f))
+    told_1 (g.F.FileBytes.bytes c.args.file.now) (λ all. block_at want.kinds want.table want.lo want.hi spot.range spot.last spot.at all ≡ Ok (Some f)) (Keeps want c.args.rows.now c.in_ok-rows-in-Some.field-0 spot (spot_behind spot f))
     (λ all e. read_some want c.args.rows.now c.in_ok-rows-in-Some.field-0 spot f all c.requires.some c.requires.rows c.in_ok-rows-in-Some.ensures e) read
 
 pub returns-in_ok-rows-in-Some-clause-values : goal.returns-in_ok-rows-in-Some-clause-values

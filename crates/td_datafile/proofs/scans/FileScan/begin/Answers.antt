@@ -1,8 +1,8 @@
 use Rattle.std.proofs.Common.{Bool, true, false, Err, sym, ap, subst, ◌∙◌}
 use Rattle.std.proofs.lemmas.Result.{err_from_is_err_and}
 use Rattle.td_layer.specs.Scans.{HasScanCause}
-use Rattle.td_datafile.specs.Scanning.{Scan, want_of, left_of, damaged_of}
-use Rattle.td_datafile.proofs.States.{left_rises, spot_of, opened_left, opened_is, same_order, has_cause, opening_fault}
+use Rattle.td_datafile.specs.Scanning.{Scan, want_of, left_of, damaged_of, ComesLast}
+use Rattle.td_datafile.proofs.States.{left_rises, spot_of, opened_left, opened_is, same_order, has_cause, opening_fault, opening_last}
 use Rattle.td_datafile.proofs.scans.FileScan.begin.Goals as goal
 
 pub returns-in_err-opening-clause-cause : goal.returns-in_err-opening-clause-cause
@@ -44,3 +44,12 @@ returns-clause-left g c =
     opened_left want told now c.self.inside.entries rows rows c.self.inside.spot c.in_ok-opening.opening c.in_ok-opening.ensures.file.bytes_are (c.self.invariant.fresh c.if-self.false) c.in_ok-opening.ensures.read
     ∙ ap (λ (b : Bool). left_of want told b c.self.inside.entries rows c.self.inside.spot) (sym c.if-self.false)
     ∙ ap (λ (s : Scan). s.left) c.self.view_is
+
+pub returns-in_err-opening-clause-last : goal.returns-in_err-opening-clause-last
+returns-in_err-opening-clause-last g c =
+    let p = err_from_is_err_and c.from_residual.result c.from_residual.ensures.1 in
+    let want = want_of c.self.inside.wanted in
+    let told = g.F.FileBytes.bytes c.self.inside.file in
+    let file = g.F.FileBytes.file c.self.inside.file in
+    let e = c.in_err-opening.field-0.0 in
+    rw (p.1, p.2) (subst (λ (s : Scan). ComesLast s.left e) c.self.view_is (opening_last want told file c.self.inside.begun c.self.inside.entries c.self.inside.rows c.self.inside.spot e c.if-self.false c.in_err-opening.ensures.read))

@@ -1,8 +1,9 @@
-use Rattle.std.proofs.Common.{◌≡◌, ℕ, ◌+◌, ◌^◌, ◌<◌, ◌≤◌, Bool, true, List, [], length, refl, sym, ap, subst, ◌∙◌}
+use Rattle.std.proofs.Common.{◌≡◌, ◌+◌, ◌^◌, ◌<◌, ◌≤◌, Bool, List, [], length, refl, sym, ap, subst, ◌∙◌}
+use Rattle.std.proofs.lemmas.Result.{err_from_is_err_and}
 use Rattle.std.specs.Prelude.{IfSome}
 use Rattle.td_datafile.specs.declared.format.Entry.{Entry}
-use Rattle.td_datafile.specs.Scanning.{Scan, want_of, bytes_left, left_of, Keeps, IsSound}
-use Rattle.td_datafile.proofs.States.{same_left, same_open, filled, popped, gives_next, next_values, next_sound}
+use Rattle.td_datafile.specs.Scanning.{Scan, want_of, bytes_left, left_of, Keeps, Faults, IsSound, ComesLast}
+use Rattle.td_datafile.proofs.States.{same_left, same_open, filled, popped, gives_next, next_values, next_sound, later_last}
 use Rattle.td_datafile.proofs.scans.FileScan.take.Goals as goal
 
 pub invariant_of-self-2 : goal.invariant_of-self-2
@@ -44,3 +45,15 @@ returns-clause-sound g c = λ none.
     let ends = subst (λ (es : List Entry). c.fill.new.rows ≡ [] → length es ≤ c.fill.new.spot.next) c.as_slice.ensures c.in_ok-fill.ensures.ends in
     let is_open = same_open want told told c.self.inside.entries c.self.inside.rows c.fill.new.rows c.self.inside.spot c.fill.new.spot refl keeps (c.self.invariant.opened begun) in
     subst IsSound c.self.view_is (next_sound want told c.self.inside.entries c.fill.new.rows c.next_row-given.new.rows c.fill.new.spot c.next_row-given.result c.next_row-given.ensures ends is_open none)
+
+pub returns-in_err-fill-clause-last : goal.returns-in_err-fill-clause-last
+returns-in_err-fill-clause-last g c =
+    let p = err_from_is_err_and c.from_residual.result c.from_residual.ensures.1 in
+    let want = want_of c.self.inside.wanted in
+    let told = g.F.FileBytes.bytes c.self.inside.file in
+    let file = g.F.FileBytes.file c.self.inside.file in
+    let begun = ap (λ (s : Scan). s.begun) c.self.view_is ∙ c.requires in
+    let e = c.in_err-fill.field-0.0 in
+    let keeps = subst (λ (es : List Entry). IfSome told (Keeps want es c.self.inside.rows c.fill.new.rows c.self.inside.spot c.fill.new.spot)) c.as_slice.ensures c.in_err-fill.ensures.keeps in
+    let faults = subst (λ (es : List Entry). Faults want es told file c.fill.new.spot e) c.as_slice.ensures c.in_err-fill.ensures.faults in
+    rw (p.1, p.2) (subst (λ (s : Scan). ComesLast s.left e) c.self.view_is (later_last want told file c.self.inside.begun c.self.inside.entries c.self.inside.rows c.fill.new.rows c.self.inside.spot c.fill.new.spot e begun keeps c.in_err-fill.ensures.rows_stay faults))

@@ -3,11 +3,13 @@ use Rattle.std.specs.Prelude.{IfSome, max, sum, Ok, Err, ◌≤◌, ◌+◌}
 use Rattle.std.specs.Option.{option_copied}
 use Rattle.std.specs.Map.{lookup}
 use Rattle.std.proofs.lemmas.Result.{err_from_is_err_and}
+use Rattle.td_layer.specs.Keys.{InKeyOrder}
 use Rattle.td_layer.specs.Scans.{HasScanCause, rows_in}
 use Rattle.td_fileio.specs.Days.{day_start}
 use Rattle.td_fileset.specs.Layered.{Layered, Span, Stored, rows_told, held_told, damaged_told}
 use Rattle.td_fileset.specs.Opened.{Readers, AddsRows, shown_count}
 use Rattle.td_fileset.proofs.Answered.{answer_none}
+use Rattle.td_fileset.proofs.Risen.{told_rises}
 use Rattle.td_fileset.proofs.Spanned.{cause_err}
 use Rattle.td_fileset.proofs.Told.{span_found, span_most, span_cause, files_written, fault_written, cause_ok}
 use Rattle.td_fileset.proofs.layers.LayersSnapshot.rows_of.Goals as goal
@@ -129,3 +131,21 @@ returns-clause-fault g c =
     subst (λ (l : Layered). HasScanCause (damaged_told l.stored) (shown_count l.failed) (shown_count (sum (map (λ (r : Readers). r.failed) (take s.sets.len (c.add_pieces.new.sets ++ drop (length c.add_pieces.new.sets) s.sets.items))))) (Ok c.add_pieces.new.found)) c.self.view_is
     (fault_written (damaged_told st) _ s.sets.len c.add_pieces.new.sets c.as_mut_slice.result.now s.sets.items (Ok c.add_pieces.new.found) long c.as_mut_slice.ensures.value refl
     (span_cause st c.args.table c.args.lo c.args.hi c.in-Some.kinds.now c.as_slice-2.result.now (map (λ (r : Readers). r.files) c.as_mut_slice.result.now) span is c.as_slice-2.ensures.value (ap (map (λ (r : Readers). r.files)) c.as_mut_slice.ensures.value) part _ _ (Ok c.add_pieces.new.found) (cause_ok _ _ _ _ c.add_pieces.new.found c.in_ok-add_pieces.ensures.fault)))
+
+pub returns-in_default-clause-in_order : goal.returns-in_default-clause-in_order
+returns-in_default-clause-in_order g c =
+    let s = c.self.inside in
+    let st : Stored = record { memtables = s.memtables.items; sets = map (λ (r : Readers). r.files) s.sets.items; kinds = s.kinds.entries; edge = s.edge } in
+    subst (λ (l : Layered). IfSome (rows_told l.stored) (λ rows. InKeyOrder rows)) c.self.view_is (told_rises st c.kinds_of.ensures.order)
+
+pub returns-in_err-add_pieces-clause-in_order : goal.returns-in_err-add_pieces-clause-in_order
+returns-in_err-add_pieces-clause-in_order g c =
+    let s = c.self.inside in
+    let st : Stored = record { memtables = s.memtables.items; sets = map (λ (r : Readers). r.files) s.sets.items; kinds = s.kinds.entries; edge = s.edge } in
+    subst (λ (l : Layered). IfSome (rows_told l.stored) (λ rows. InKeyOrder rows)) c.self.view_is (told_rises st c.kinds_of.ensures.order)
+
+pub returns-clause-in_order : goal.returns-clause-in_order
+returns-clause-in_order g c =
+    let s = c.self.inside in
+    let st : Stored = record { memtables = s.memtables.items; sets = map (λ (r : Readers). r.files) s.sets.items; kinds = s.kinds.entries; edge = s.edge } in
+    subst (λ (l : Layered). IfSome (rows_told l.stored) (λ rows. InKeyOrder rows)) c.self.view_is (told_rises st c.kinds_of.ensures.order)

@@ -1,4 +1,8 @@
-use Rattle.std.proofs.Common.{◌∙◌}
+use Rattle.std.proofs.Common.{◌∙◌, nat_le, filter, sym, subst}
+use Rattle.td_layer.specs.Keys.{InKeyOrder, key_cmp}
+use Rattle.td_layer.specs.declared.values.Key.{Key}
+use Rattle.td_layer.specs.declared.values.Row.{Row}
+use Rattle.td_memtree.proofs.Taking.{rises_filter}
 use Rattle.td_rows.proofs.Walked.{keeping, take_row, kept_all}
 use Rattle.td_rows.proofs.tree.RowTree.kept_from.Goals as goal
 
@@ -12,3 +16,9 @@ loop-key-preserved-then-key-ts c =
 
 pub returns : goal.returns
 returns c = kept_all c.args.ts c.args.self.now c.loop-key.tree c.loop-key.key-iterator c.loop-key.invariant c.in-None.ensures.steps.0
+
+pub invariant_of-result : goal.invariant_of-result
+invariant_of-result c =
+    let kept = kept_all c.args.ts c.args.self.now c.loop-key.tree c.loop-key.key-iterator c.loop-key.invariant c.in-None.ensures.steps.0 in
+    let sorted : InKeyOrder c.args.self.now = subst InKeyOrder c.self.view_is c.self.invariant in
+    subst InKeyOrder (sym kept) (rises_filter key_cmp (λ (e : Key × Row). nat_le c.args.ts e.0.ts) c.args.self.now sorted)
