@@ -64,7 +64,7 @@ picked : (t u : Bool) (p q : Mark) → ((t ≡ true) × (u ≡ false)) ⊎ ((t �
 picked t u p q (inl h) = rw (h.0, h.1)
 picked t u p q (inr h) = rw (h.0, h.1)
 
-rows_turned : (r s : Key × Value) → s.0 ≢ r.0 → merged (tally_of_row r.1 r.0) (tally_of_row s.1 s.0) ≡ merged (tally_of_row s.1 s.0) (tally_of_row r.1 r.0)
+pub rows_turned : (r s : Key × Value) → s.0 ≢ r.0 → merged (tally_of_row r.1 r.0) (tally_of_row s.1 s.0) ≡ merged (tally_of_row s.1 s.0) (tally_of_row r.1 r.0)
 rows_turned (a, value.Null) (b, value.Null) ne = refl
 rows_turned (a, value.Null) (b, value.Num n) ne = same_tally (merged (tally_of_row value.Null a) (tally_of_row (value.Num n) b)) (merged (tally_of_row (value.Num n) b) (tally_of_row value.Null a)) refl refl (omega (arith, ints)) refl refl refl refl
 rows_turned (a, value.Num m) (b, value.Null) ne = same_tally (merged (tally_of_row (value.Num m) a) (tally_of_row value.Null b)) (merged (tally_of_row value.Null b) (tally_of_row (value.Num m) a)) refl refl (omega (arith, ints)) refl refl refl refl

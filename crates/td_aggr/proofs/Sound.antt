@@ -44,10 +44,10 @@ IsSound-merged a b p q = record {
 }
 
 -- ---- the tally of a list
-IsSound-empty_tally : IsSound empty_tally
+pub IsSound-empty_tally : IsSound empty_tally
 IsSound-empty_tally = record { low = omega (arith, ints); high = omega (arith, ints); min = tt; max = tt; first = tt; last = tt }
 
-IsSound-tally_of_row : (v : Value) (at : Key) → IsColumnValue v → IsSound (tally_of_row v at)
+pub IsSound-tally_of_row : (v : Value) (at : Key) → IsColumnValue v → IsSound (tally_of_row v at)
 IsSound-tally_of_row value.Null at h = record { low = omega (arith, ints); high = omega (arith, ints); min = tt; max = tt; first = tt; last = tt }
 IsSound-tally_of_row (value.Num n) at h = record { low = omega (arith, ints); high = omega (arith, ints); min = h; max = h; first = h; last = h }
 
@@ -56,11 +56,11 @@ IsSound-tally_of [] h = IsSound-empty_tally
 IsSound-tally_of (row ∷ rows) h =
     IsSound-merged (tally_of_row row.1 row.0) (tally_of rows) (IsSound-tally_of_row row.1 row.0 h.0) (IsSound-tally_of rows h.1)
 
-rows-tally_of_row : (v : Value) (at : Key) → (tally_of_row v at).rows ≡ 1
+pub rows-tally_of_row : (v : Value) (at : Key) → (tally_of_row v at).rows ≡ 1
 rows-tally_of_row value.Null at = refl
 rows-tally_of_row (value.Num n) at = refl
 
-count-tally_of_row : (v : Value) (at : Key) → (tally_of_row v at).count ≤ 1
+pub count-tally_of_row : (v : Value) (at : Key) → (tally_of_row v at).count ≤ 1
 count-tally_of_row value.Null at = omega arith
 count-tally_of_row (value.Num n) at = omega arith
 

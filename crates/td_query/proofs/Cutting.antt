@@ -1,19 +1,16 @@
 -- What windows are cut from.
-use Rattle.std.proofs.Common.{◌≡◌, ◌≤◌, ℕ, zero, suc, pos, List, [], ◌∷◌, map, take, drop, length, All, refl, sym, ap, ◌∙◌, arith}
+use Rattle.std.proofs.Common.{◌≡◌, ◌≤◌, zero, suc, pos, List, [], ◌∷◌, map, take, drop, length, All, refl, sym, ap, ◌∙◌, arith}
 use Rattle.std.specs.List.{AllByRecursion}
 use Rattle.std.proofs.lemmas.List.{take_all}
 use Rattle.td_limits.specs.declared.limits.TheConstants.{LAST_TIMESTAMP}
-use Rattle.td_model.specs.declared.catalog.Column.{Column}
-use Rattle.td_model.specs.declared.language.WindowDef.{WindowDef}
-use Rattle.td_model.specs.declared.language.WindowDef.TheVariants as window
 use Rattle.td_window.specs.Spans.{time_of, window_over}
-use Rattle.td_window.specs.Windows.{Window, session_windows}
+use Rattle.td_window.specs.Windows.{Window}
 use Rattle.td_window.specs.declared.span.Span.{Span}
 use Rattle.td_query.specs.declared.columns.Kept.{Kept}
 use Rattle.td_query.specs.declared.columns.Kept.TheVariants as kept
-use Rattle.td_query.specs.Cuts.{kept_rows, kept_by, window_of_span}
+use Rattle.td_query.specs.Cuts.{kept_rows, window_of_span}
 use Rattle.td_query.specs.Read.{IsGood}
-use Rattle.td_verdict.specs.Windowed.{Keyed, Windows, whole_window, interval_windows, windows_of}
+use Rattle.td_verdict.specs.Windowed.{Keyed, whole_window}
 
 -- the timestamps are in range
 pub in_range : (rows : List Keyed) → AllByRecursion (IsGood LAST_TIMESTAMP) rows → All (λ t. t ≤ LAST_TIMESTAMP) (map time_of rows)
@@ -43,23 +40,3 @@ pub whole_kept : (rows : List Keyed) → map (window_of_span kept.All rows) (rec
 unfolding window_from
 whole_kept rows =
     ap (λ (l : List Keyed). window_from (record { start = pos 0; end = pos 0; first = 0; rows = length rows }) l ∷ []) (all_kept (take (length rows) rows) ∙ take_all (length rows) rows (omega arith))
-
--- ---- the windows of spans are those of a window clause
-module _ (columns : List Column) (w : WindowDef) (rows : List Keyed) (spans : List Span) where
-  abbrev of_spans : WindowDef → Windows
-  of_spans w = map (window_of_span (kept_by columns w) rows) spans
-
-  pub whole_windows : w ≡ window.Whole → spans ≡ record { start = pos 0; end = pos 0; first = 0; rows = length rows } ∷ []
-      → map (window_of_span (kept_by columns w) rows) spans ≡ windows_of columns w rows
-  whole_windows is one =
-      ap of_spans is ∙ ap (map (window_of_span kept.All rows)) one ∙ whole_kept rows ∙ ap (λ w. windows_of columns w rows) (sym is)
-
-  pub interval_spans : (len offset slide : ℕ) → w ≡ window.Interval len offset slide → map (window_over rows) spans ≡ interval_windows len offset slide rows
-      → map (window_of_span (kept_by columns w) rows) spans ≡ windows_of columns w rows
-  interval_spans len offset slide is same =
-      ap of_spans is ∙ windows_kept rows spans ∙ same ∙ ap (λ w. windows_of columns w rows) (sym is)
-
-  pub session_spans : (column : List ℕ) (tol : ℕ) → w ≡ window.Session column tol → map (window_over rows) spans ≡ session_windows time_of tol rows
-      → map (window_of_span (kept_by columns w) rows) spans ≡ windows_of columns w rows
-  session_spans column tol is same =
-      ap of_spans is ∙ windows_kept rows spans ∙ same ∙ ap (λ w. windows_of columns w rows) (sym is)

@@ -55,7 +55,7 @@ both_out : (a b : Bool) → (a && b) ≡ true → (a ≡ true) × (b ≡ true)
 both_out true b e = (refl, e)
 both_out false b e = cc
 
-within_out : (len : ℕ) (k : ℤ) (t : ℕ) → is_within len k t ≡ true → (k ≤ℤ pos t) × (pos t <ℤ (k +ℤ pos len))
+pub within_out : (len : ℕ) (k : ℤ) (t : ℕ) → is_within len k t ≡ true → (k ≤ℤ pos t) × (pos t <ℤ (k +ℤ pos len))
 within_out len k t e =
     let b = both_out (int_le k (pos t)) (int_lt (pos t) (k +ℤ pos len)) e in
     let l = b.0 in
@@ -73,7 +73,7 @@ module _ (offset len slide : ℕ) (some : 0 < slide) where
   abbrev turns : ℕ
   turns = (offset + len) / slide
 
-  start_is : (q : ℕ) → IsStart offset slide (pos (phase + q * slide) -ℤ pos len)
+  pub start_is : (q : ℕ) → IsStart offset slide (pos (phase + q * slide) -ℤ pos len)
   start_is q = go (cases_lt q turns)
     where
       go : (q < turns) ⊎ (turns ≤ q) → IsStart offset slide (pos (phase + q * slide) -ℤ pos len)
@@ -85,7 +85,7 @@ module _ (offset len slide : ℕ) (some : 0 < slide) where
           let m : (q - turns) * slide + turns * slide ≡ q * slide = products (q - turns) turns q slide (omega arith) in
           (pos (q - turns), omega (arith, ints, m))
 
-  end_is : (k : ℤ) (t : ℕ) → IsStart offset slide k → pos t <ℤ (k +ℤ pos len) → (q : ℕ) × (k +ℤ pos len ≡ pos (phase + q * slide))
+  pub end_is : (k : ℤ) (t : ℕ) → IsStart offset slide k → pos t <ℤ (k +ℤ pos len) → (q : ℕ) × (k +ℤ pos len ≡ pos (phase + q * slide))
   end_is k t (pos j, d) h = (turns + j, omega (arith, ints, d))
   end_is k t (negsuc j, d) h = go (cases_lt j turns)
     where

@@ -37,7 +37,7 @@ module _ (n lo hi : ℕ) where
   within_at e es true is rest = ((and_parts (e.0.table == n) (nat_le lo e.0.ts && nat_le e.0.ts hi) is).1, rest)
   within_at e es false is rest = rest
 
-  within : (es : Rows) → AllByRecursion (λ f. is_within lo hi f ≡ true) (map (keyed n) (rows_in n lo hi es))
+  pub within : (es : Rows) → AllByRecursion (λ f. is_within lo hi f ≡ true) (map (keyed n) (rows_in n lo hi es))
   within [] = tt
   within (e ∷ es) = within_at e es (is_in e) refl (within es)
 

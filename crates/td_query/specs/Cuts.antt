@@ -1,13 +1,11 @@
 -- The rows of a window among those that it spans.
-use Rattle.std.specs.Prelude.{ℕ, ◌+◌, ◌^◌, ◌<◌, ◌≤◌, Bool, true, List, map, filter, length, take, drop, Option}
+use Rattle.std.specs.Prelude.{ℕ, zero, suc, ◌+◌, ◌^◌, ◌<◌, ◌≤◌, pos, Bool, true, List, map, filter, length, take, drop, slice_get, Option, Some, None}
+use Rattle.std.specs.Option.{unwrap_or}
 use Rattle.std.specs.List.{AllByRecursion}
 use Rattle.td_layer.specs.declared.values.Key.{Key}
 use Rattle.td_layer.specs.declared.values.Value.{Value}
+use Rattle.td_layer.specs.declared.values.Value.TheVariants as value
 use Rattle.td_limits.specs.declared.limits.TheConstants.{LAST_TIMESTAMP}
-use Rattle.td_model.specs.declared.catalog.Column.{Column}
-use Rattle.td_model.specs.declared.language.WindowDef.{WindowDef}
-use Rattle.td_model.specs.declared.language.WindowDef.TheVariants as window
-use Rattle.td_verdict.specs.Writes.{place_of}
 use Rattle.td_window.specs.Windows.{Window, isnt_null}
 use Rattle.td_window.specs.declared.span.Span.{Span}
 use Rattle.td_query.specs.declared.columns.Kept.{Kept}
@@ -15,6 +13,12 @@ use Rattle.td_query.specs.declared.columns.Kept.TheVariants as kept
 use Rattle.td_query.specs.declared.items.Cut.{Cut}
 use Rattle.td_query.specs.Read.{IsGood}
 use Rattle.td_verdict.specs.Windowed.{Keyed, value_at}
+
+-- what a row of a timestamp and values holds in the column at a place
+abbrev pub value_of : Option ℕ → ℕ → List Value → Value
+value_of None ts values = value.Null
+value_of (Some zero) ts values = value.Num (pos ts)
+value_of (Some (suc place)) ts values = unwrap_or (slice_get values place) value.Null
 
 -- whether a row belongs to its window
 abbrev pub is_kept : Kept → Keyed → Bool
@@ -27,11 +31,6 @@ kept_rows k rows = filter (is_kept k) rows
 -- what rows hold in the column at a place
 abbrev pub values : Option ℕ → List Keyed → List (Key × Value)
 values place rows = map (λ (e : Keyed). (e.0, value_at place e)) rows
-
--- which rows belong to the windows of a query
-abbrev pub kept_by : List Column → WindowDef → Kept
-kept_by columns (window.State column) = kept.WithState (place_of columns column)
-kept_by columns w = kept.All
 
 -- the window of a span
 abbrev pub window_of_span : Kept → List Keyed → Span → Window Keyed

@@ -1,7 +1,14 @@
+pub mod Closed
 pub mod Cuts
+pub mod Framed
+pub mod Frames
 pub mod Gathered
 pub mod Lines
 pub mod Picks
 pub mod Planned
 pub mod Read
 pub mod Shown
+pub mod Slots
+pub mod Summed
+pub mod Sums
+pub mod Totals

@@ -1,5 +1,6 @@
 -- What reading a snapshot gives and leaves.
-use Rattle.std.specs.Prelude.{◌≡◌, ◌≤◌, ◌<◌, ◌+◌, ℕ, zero, suc, Bool, ◌&&◌, nat_le, List, [], ◌∷◌, map, filter, length, insert, Option, Some, None}
+use Rattle.std.specs.Prelude.{◌≡◌, ◌⊎◌, ◌≤◌, ◌<◌, ◌+◌, ℕ, zero, suc, Bool, ◌&&◌, nat_le, List, [], ◌∷◌, map, filter, length, insert, Option, Some, None}
+use Rattle.std.specs.BTreeMap.{BTreeMap}
 use Rattle.std.specs.List.{AllByRecursion}
 use Rattle.td_layer.specs.Columns.{AreColumnValues}
 use Rattle.td_layer.specs.declared.values.Cell.{Cell}
@@ -58,11 +59,22 @@ held_by held lo hi (t ∷ ts) = told_sum (held t.number lo hi) (held_by held lo 
 
 -- ---- groups
 
-abbrev pub grouped : Gathered → Grouped
-grouped g = record { part = g.part; rows = keyed_rows g.rows.entries }
+-- a group of rows by timestamp and table
+abbrev pub WithRows : Type 0
+WithRows = Gathered (BTreeMap TimeKey Row)
 
-abbrev pub all_grouped : List Gathered → List Grouped
+abbrev pub grouped : WithRows → Grouped
+grouped g = record { part = g.part; rows = keyed_rows g.kept.entries }
+
+abbrev pub all_grouped : List WithRows → List Grouped
 all_grouped gs = map grouped gs
+
+-- the parts of groups
+abbrev pub parts_of : {W : Type 0} → List (Gathered W) → List (List Cell)
+parts_of {W} gs = map (λ (g : Gathered W). g.part) gs
+
+abbrev pub parts_in : List Grouped → List (List Cell)
+parts_in gs = map (λ (g : Grouped). g.part) gs
 
 -- rows put into the group at a place
 abbrev pub put_at : ℕ → Rows → List Grouped → List Grouped
@@ -70,15 +82,28 @@ put_at place rows [] = []
 put_at zero rows (g ∷ gs) = with_rows g rows ∷ gs
 put_at (suc place) rows (g ∷ gs) = g ∷ put_at place rows gs
 
--- the group of a part stands at a place
-abbrev pub PutsAt : List Cell → List Grouped → ℕ → Type 0
-PutsAt part gs place = (place < length gs) × ((rows : Rows) → put_group part rows gs ≡ put_at place rows gs)
+-- among groups of these parts that of a part stands at a place
+abbrev pub StandsAt : List Cell → List (List Cell) → ℕ → Type 0
+StandsAt part parts place =
+    (place < length parts)
+    × ((gs : List Grouped) (rows : Rows) → parts_in gs ≡ parts → put_group part rows gs ≡ put_at place rows gs)
 
 -- there is none, and it would stand at a place
-abbrev pub PutsIn : List Cell → List Grouped → ℕ → Type 0
-PutsIn part gs place =
-    (place ≤ length gs) × ((rows : Rows) → put_group part rows gs
-    ≡ put_at place rows (insert gs place (empty_group part)))
+abbrev pub GoesTo : List Cell → List (List Cell) → ℕ → Type 0
+GoesTo part parts place =
+    (place ≤ length parts)
+    × ((gs : List Grouped) (rows : Rows) → parts_in gs ≡ parts
+    → put_group part rows gs ≡ put_at place rows (insert gs place (empty_group part)))
+
+-- groups among which that of a part now stands at a place: it did, or it was made, with what is kept of no row
+abbrev pub made_group : {W : Type 0} → List Cell → W → Gathered W
+made_group part fresh = record { part = part; kept = fresh }
+
+abbrev pub IsOpened : {W : Type 0} → List Cell → W → List (Gathered W) → List (Gathered W) → ℕ → Type 0
+IsOpened part fresh old new place =
+    (place < length new)
+    × (((new ≡ old) × StandsAt part (parts_of old) place)
+    ⊎ ((new ≡ insert old place (made_group part fresh)) × GoesTo part (parts_of old) place))
 
 -- groups among which that of a part now stands at a place
 abbrev pub Opens : List Cell → List Grouped → List Grouped → ℕ → Type 0

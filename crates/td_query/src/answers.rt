@@ -1,5 +1,5 @@
 //! The answer of a plan over a snapshot.
-ghost use Rattle.std.specs.Prelude.{◌≡◌, ◌≤◌, ◌<◌, ◌+◌, ◌^◌, ℕ, IfOk, IfSome, All, drop, take, map, reverse, length, false, Some};
+ghost use Rattle.std.specs.Prelude.{◌≡◌, ◌≤◌, ◌<◌, ◌+◌, ◌^◌, ℕ, IfOk, IfSome, All, drop, take, map, reverse, length, true, false, Some};
 ghost use Rattle.std.specs.List.{flat_map};
 ghost use Rattle.td_layer.specs.Scans.{HasScanCause};
 ghost use Rattle.td_limits.specs.declared.limits.TheConstants.{LAST_TIMESTAMP};
@@ -9,6 +9,8 @@ ghost use Rattle.td_verdict.specs.Answers.{answer_of, shown_places};
 ghost use Rattle.td_verdict.specs.Fields.{comparisons_of};
 ghost use Rattle.td_verdict.specs.Plans.{plan_of, reads_one};
 ghost use Rattle.td_verdict.specs.Answered.{window_rows, answer_of_groups, answer};
+ghost use Rattle.td_query.specs.Framed.{frame_numbers};
+ghost use Rattle.td_query.specs.Frames.{frame_of};
 ghost use Rattle.td_query.specs.Gathered.{grouped_of, IsReady};
 ghost use Rattle.td_query.specs.Planned.{tables_of, groups_of, row_answer, plan_answer};
 ghost use Rattle.td_query.specs.Picks.{found_rows};
@@ -16,12 +18,19 @@ ghost use Rattle.td_query.specs.Read.{held_by};
 ghost use Rattle.td_verdict.specs.Refusals.{has_bad_bounds};
 ghost use Rattle.td_verdict.specs.Sound.{IsSound};
 ghost use Rattle.td_query.specs.Shown.{windows_in};
+ghost use Rattle.td_query.specs.Totals.{rises};
 
 use crate::arranging::arrange;
+use crate::closing::close_all;
 use crate::finishing::finish;
-use crate::gathering::{Group, gather};
+use crate::frames::Frame;
+use crate::framing::frame_of;
+use crate::gathering::{Group, gather, has_one_group};
 use crate::picks::{PickedRows, in_order, pick_all};
 use crate::shown::{part, shown_all};
+use crate::slots::places_of;
+use crate::summing::Asked;
+use crate::totals::{rises, sum_tables};
 use std::alloc::Global;
 use std::sync::ledger::Ledger;
 use td_fields::{comparisons, shown_places};
@@ -57,8 +66,8 @@ fn finish_all(alloc: Global, plan: &Plan, groups: Seq<Group>) -> Result<Seq<Grou
     Ok(Seq::from_vec(alloc, all))
 }
 
-// A part of the answer of a plan with an aggregate, a window or PARTITION BY.
-fn windows_answer<Q: Snapshot, L: Ledger>(
+// A part of the answer of a plan with an aggregate, a window or PARTITION BY, by the rows of its groups.
+fn gathered_answer<Q: Snapshot, L: Ledger>(
     alloc: Global,
     plan: &Plan,
     snap: &mut Q,
@@ -85,6 +94,85 @@ fn windows_answer<Q: Snapshot, L: Ledger>(
     let finished = finish_all(alloc, plan, groups)?;
     let all = arrange(alloc, plan, &finished, skip, count)?;
     Ok(all)
+}
+
+// A part of the answer of a plan with an aggregate or an interval, by the sums of the rows of its groups.
+fn summed_answer<Q: Snapshot, L: Ledger>(
+    alloc: Global,
+    plan: &Plan,
+    frame: Frame,
+    snap: &mut Q,
+    skip: u64,
+    count: u64,
+    steps: &mut Steps<L>,
+) -> Result<Seq<Seq<Cell>>, ScanFault>
+    requires time { plan.now.hi ≤ LAST_TIMESTAMP }
+    requires framed { Some (frame_numbers frame) ≡ frame_of plan.now.query.window }
+    requires once { rises plan.now.tables ≡ true }
+    ensures part { IfOk result (λ all. IfSome (Q.rows snap.old) (λ rows. all ≡ take count
+        (drop skip (answer_of_groups plan.now.schema.columns plan.now.query
+        (groups_of plan.now (comparisons_of plan.now.schema plan.now.query.conds) rows))))) }
+    ensures few { IfOk result (λ _. IfSome (Q.rows snap.old)
+        (λ rows. length (answer_of_groups plan.now.schema.columns plan.now.query
+        (groups_of plan.now (comparisons_of plan.now.schema plan.now.query.conds) rows)) < 2 ^ 63)) }
+    ensures rows { Q.rows snap.new ≡ Q.rows snap.old }
+    ensures held { (t l h : ℕ) → Q.held snap.new t l h ≡ Q.held snap.old t l h }
+    ensures damaged { Q.damaged snap.new ≡ Q.damaged snap.old }
+    ensures fault { HasScanCause (Q.damaged snap.old) (Q.count snap.old) (Q.count snap.new) result }
+    ensures most_steps { IfSome (held_by (Q.held snap.old) plan.now.lo plan.now.hi (tables_of plan.now))
+        (λ n. steps.new ≤ steps.old + n) }
+{
+    let columns = plan.schema.columns.as_slice();
+    let comparisons = comparisons(alloc, &plan.schema, plan.query.conds.as_slice())?;
+    let places = places_of(alloc, columns, plan.query.items.as_slice())?;
+    let asked = Asked {
+        plan,
+        comparisons: comparisons.as_slice(),
+        frame,
+        places: places.as_slice(),
+    };
+    let one = has_one_group(&plan.query);
+    let gathered = sum_tables(alloc, &asked, one, snap, steps)?;
+    let groups = close_all(alloc, &asked, one, gathered)?;
+    let all = arrange(alloc, plan, &groups, skip, count)?;
+    Ok(all)
+}
+
+// A part of the answer of a plan with an aggregate, a window or PARTITION BY. Rows are summed up where they need not be
+// kept: without a session or state window, and where no table is read twice.
+fn windows_answer<Q: Snapshot, L: Ledger>(
+    alloc: Global,
+    plan: &Plan,
+    snap: &mut Q,
+    skip: u64,
+    count: u64,
+    steps: &mut Steps<L>,
+) -> Result<Seq<Seq<Cell>>, ScanFault>
+    requires time { plan.now.hi ≤ LAST_TIMESTAMP }
+    requires bounds { has_bad_bounds plan.now.query.window ≡ false }
+    ensures part { IfOk result (λ all. IfSome (Q.rows snap.old) (λ rows. all ≡ take count
+        (drop skip (answer_of_groups plan.now.schema.columns plan.now.query
+        (groups_of plan.now (comparisons_of plan.now.schema plan.now.query.conds) rows))))) }
+    ensures few { IfOk result (λ _. IfSome (Q.rows snap.old)
+        (λ rows. length (answer_of_groups plan.now.schema.columns plan.now.query
+        (groups_of plan.now (comparisons_of plan.now.schema plan.now.query.conds) rows)) < 2 ^ 63)) }
+    ensures rows { Q.rows snap.new ≡ Q.rows snap.old }
+    ensures held { (t l h : ℕ) → Q.held snap.new t l h ≡ Q.held snap.old t l h }
+    ensures damaged { Q.damaged snap.new ≡ Q.damaged snap.old }
+    ensures fault { HasScanCause (Q.damaged snap.old) (Q.count snap.old) (Q.count snap.new) result }
+    ensures most_steps { IfSome (held_by (Q.held snap.old) plan.now.lo plan.now.hi (tables_of plan.now))
+        (λ n. steps.new ≤ steps.old + n) }
+{
+    match frame_of(&plan.query.window) {
+        Some(frame) if rises(plan.tables.as_slice()) => {
+            let all = summed_answer(alloc, plan, frame, snap, skip, count, steps)?;
+            Ok(all)
+        }
+        _ => {
+            let all = gathered_answer(alloc, plan, snap, skip, count, steps)?;
+            Ok(all)
+        }
+    }
 }
 
 // A part of what is shown of rows that were picked.

@@ -4,14 +4,14 @@ ghost use Rattle.std.specs.List.{AllByRecursion};
 ghost use Rattle.td_aggr.specs.Tallies.{IsSound, merged, tally_of, tally_of_row};
 ghost use Rattle.td_limits.specs.declared.limits.TheConstants.{LAST_TIMESTAMP};
 ghost use Rattle.td_window.specs.Windows.{isnt_null};
-ghost use Rattle.td_query.specs.Cuts.{is_kept, kept_rows, values};
+ghost use Rattle.td_query.specs.Cuts.{is_kept, kept_rows, value_of, values};
 ghost use Rattle.td_query.specs.Read.{IsGood};
 ghost use Rattle.td_verdict.specs.Windowed.{value_at, is_end, truth_cell, has_truths, aggregate_cell};
 
 use crate::cells::value_in;
 use td_aggr::{Aggr, Tally};
 use td_fields::{column_named, place_of};
-use td_layer::{Cell, Func, Key, Name, Row, Value};
+use td_layer::{Cell, Func, Key, Name, Row, Seq, Value};
 use td_model::{Column, Kind};
 
 /// Which of the rows of a window belong to it: all, or those whose state, in the column at a place, isn't NULL.
@@ -21,20 +21,28 @@ pub(crate) enum Kept {
     WithState(Option<usize>),
 }
 
-/// What a row holds in the column at a place, from 0: its timestamp in the first, and NULL where there is none.
-pub(crate) fn value_at(place: Option<usize>, entry: &(Key, Row)) -> Value
-    ensures { result ≡ value_at place entry.now }
+/// What a row of a timestamp and values holds in the column at a place, from 0: its timestamp in the first, and NULL
+/// where there is none.
+pub(crate) fn value_of(place: Option<usize>, ts: u64, values: &Seq<Value>) -> Value
+    ensures { result ≡ value_of place ts values.now }
 {
     match place {
         None => Value::Null,
         Some(at) => {
             if at == 0 {
-                Value::Num(i128::from(entry.0.ts))
+                Value::Num(i128::from(ts))
             } else {
-                value_in(&entry.1.values, at - 1)
+                value_in(values, at - 1)
             }
         }
     }
+}
+
+/// What a row holds in the column at a place.
+pub(crate) fn value_at(place: Option<usize>, entry: &(Key, Row)) -> Value
+    ensures { result ≡ value_at place entry.now }
+{
+    value_of(place, entry.0.ts, &entry.1.values)
 }
 
 fn isnt_null(value: Value) -> bool
@@ -109,14 +117,15 @@ fn truth_cell(cell: Cell) -> Cell
     }
 }
 
-// Whether an aggregate of a column is a truth value: FIRST and LAST of a BOOL are.
-fn gives_truth(columns: &[Column], func: Func, name: &Name) -> bool
+/// Whether an aggregate of a column is a truth value: FIRST and LAST of a BOOL are.
+pub(crate) fn gives_truth(columns: &[Column], func: Func, name: &Name) -> bool
     ensures { result ≡ (is_end func && has_truths columns.now name.now) }
 {
     is_end(func) && has_truths(columns, name)
 }
 
-fn cell_as(is_truth: bool, cell: Cell) -> Cell
+/// A cell, as a truth value where it is one.
+pub(crate) fn cell_as(is_truth: bool, cell: Cell) -> Cell
     ensures { result ≡ (if is_truth then truth_cell cell else cell) }
 {
     if is_truth { truth_cell(cell) } else { cell }

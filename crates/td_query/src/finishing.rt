@@ -8,12 +8,13 @@ ghost use Rattle.td_query.specs.Gathered.{grouped_of, IsReady};
 ghost use Rattle.td_verdict.specs.Refusals.{has_bad_bounds};
 
 use crate::columns::Kept;
+use crate::cutters::{Cutter, Intervals, Sessions, States, Whole};
 use crate::gathering::Group;
 use crate::items::{Cut, cut_at, window_cells};
-use crate::spans::{kept_by, spans_of};
 use std::alloc::Global;
+use td_fields::place_of;
 use td_layer::{Cell, Copied, Key, NoMem, Row, Seq};
-use td_model::{Plan, WinKey, WinRow};
+use td_model::{Plan, WinKey, WinRow, WindowDef};
 use td_window::Span;
 
 // So many rows, or more, no memory holds. Aggregates are taken of fewer.
@@ -66,6 +67,25 @@ fn span_rows(
     Ok(all)
 }
 
+// The rows of the windows that a cutter makes of the rows of a group.
+fn rows_cut_by<C: Cutter>(
+    alloc: Global,
+    plan: &Plan,
+    part: &Seq<Cell>,
+    cutter: &C,
+    rows: &[(Key, Row)],
+) -> Result<Seq<WinRow>, NoMem>
+    requires in_order { IsNonDecreasing (map time_of rows.now) }
+    requires sound { AreSound rows.now }
+    ensures { IfOk result (λ all. all ≡ map (window_row plan.now.schema.columns plan.now.query part.now)
+        (C.windows cutter.now rows.now)) }
+{
+    let kept = cutter.kept();
+    let spans = cutter.cut(alloc, rows)?;
+    let all = span_rows(alloc, plan, part, kept, rows, spans.as_slice())?;
+    Ok(all)
+}
+
 // The rows of the windows of a group.
 fn window_rows(
     alloc: Global,
@@ -79,12 +99,30 @@ fn window_rows(
     ensures { IfOk result (λ all. all ≡ window_rows plan.now.schema.columns plan.now.query
         (record { part = part.now; rows = rows.now })) }
 {
-    let columns = plan.schema.columns.as_slice();
-    let window = &plan.query.window;
-    let kept = kept_by(columns, window);
-    let spans = spans_of(alloc, columns, window, rows)?;
-    let all = span_rows(alloc, plan, part, kept, rows, spans.as_slice())?;
-    Ok(all)
+    match &plan.query.window {
+        WindowDef::Whole => {
+            let all = rows_cut_by(alloc, plan, part, &Whole, rows)?;
+            Ok(all)
+        }
+        WindowDef::Interval { len, offset, slide } => {
+            let intervals = Intervals {
+                len: *len,
+                offset: *offset,
+                slide: *slide,
+            };
+            let all = rows_cut_by(alloc, plan, part, &intervals, rows)?;
+            Ok(all)
+        }
+        WindowDef::Session { tol, .. } => {
+            let all = rows_cut_by(alloc, plan, part, &Sessions { tol: *tol }, rows)?;
+            Ok(all)
+        }
+        WindowDef::State { column } => {
+            let place = place_of(plan.schema.columns.as_slice(), column);
+            let all = rows_cut_by(alloc, plan, part, &States { place }, rows)?;
+            Ok(all)
+        }
+    }
 }
 
 /// Cuts the rows of a group into the windows of a plan, and gives the group a row for each window, by their starts: its

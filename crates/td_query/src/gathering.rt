@@ -9,7 +9,7 @@ ghost use Rattle.td_query.specs.Read.{grouped, all_grouped, listed, held_by, Are
 ghost use Rattle.td_query.specs.Gathered.{without_windows, IsInOrder, IsReady};
 
 use crate::groups::{Gathered, put_found};
-use crate::rows::into_rows;
+use crate::rows::{Sorted, into_rows};
 use crate::tables::{Table, table_at};
 use std::alloc::Global;
 use std::collections::BTreeMap;
@@ -36,7 +36,7 @@ fn read_table<Q: Snapshot, L: Ledger>(
     table: &Table<'_>,
     snap: &mut Q,
     steps: &mut Steps<L>,
-    groups: &mut Vec<Gathered>,
+    groups: &mut Vec<Gathered<Sorted>>,
 ) -> Result<(), ScanFault>
     ensures found { OnOk result (IfSome (Q.rows snap.old)
         (λ all. all_grouped groups.new.items ≡ put_group table.now.part.now
@@ -62,7 +62,7 @@ fn read_tables<Q: Snapshot, L: Ledger>(
     comparisons: &[Comparison],
     snap: &mut Q,
     steps: &mut Steps<L>,
-    groups: &mut Vec<Gathered>,
+    groups: &mut Vec<Gathered<Sorted>>,
 ) -> Result<(), ScanFault>
     ensures found { OnOk result (IfSome (Q.rows snap.old)
         (λ all. all_grouped groups.new.items ≡ put_tables (picked_in plan.now comparisons.now all)
@@ -84,22 +84,22 @@ fn read_tables<Q: Snapshot, L: Ledger>(
     Ok(())
 }
 
-// Whether a query has neither a window nor PARTITION BY.
-fn has_one_group(query: &Query) -> bool
+/// Whether a query has neither a window nor PARTITION BY.
+pub(crate) fn has_one_group(query: &Query) -> bool
     ensures { result ≡ has_one_group query.now }
 {
     matches!(query.window, WindowDef::Whole) && query.parts.is_empty()
 }
 
 // The groups before any row: the one that is there without a window and PARTITION BY, or else none.
-fn first_groups(alloc: Global, one: bool) -> Result<Vec<Gathered>, NoMem>
+fn first_groups(alloc: Global, one: bool) -> Result<Vec<Gathered<Sorted>>, NoMem>
     ensures { IfOk result (λ groups. all_grouped groups.items ≡ first_groups one) }
 {
     let mut groups = Vec::new(alloc);
     if one {
         let part = Seq::new(alloc);
-        let rows = BTreeMap::new(alloc);
-        groups.push(Gathered { part, rows })?;
+        let kept = BTreeMap::new(alloc);
+        groups.push(Gathered { part, kept })?;
     }
     Ok(groups)
 }
@@ -108,16 +108,16 @@ fn first_groups(alloc: Global, one: bool) -> Result<Vec<Gathered>, NoMem>
 fn add_group(
     alloc: Global,
     one: bool,
-    group: Gathered,
+    group: Gathered<Sorted>,
     groups: &mut Seq<Group>,
 ) -> Result<(), NoMem>
     ensures same { OnOk result (groups.new ≡ groups.old
         ++ map without_windows (filter (is_shown one) (grouped group ∷ []))) }
     ensures in_order { All IsInOrder groups.old → OnOk result (All IsInOrder groups.new) }
 {
-    let Gathered { part, rows } = group;
-    if one || !rows.is_empty() {
-        let rows = into_rows(alloc, rows)?;
+    let Gathered { part, kept } = group;
+    if one || !kept.is_empty() {
+        let rows = into_rows(alloc, kept)?;
         let windows = Seq::new(alloc);
         groups.add(Group {
             part,
@@ -129,7 +129,11 @@ fn add_group(
 }
 
 // The groups that are shown: the only one, or those that hold a row.
-fn shown_groups(alloc: Global, one: bool, gathered: Vec<Gathered>) -> Result<Seq<Group>, NoMem>
+fn shown_groups(
+    alloc: Global,
+    one: bool,
+    gathered: Vec<Gathered<Sorted>>,
+) -> Result<Seq<Group>, NoMem>
     ensures groups { IfOk result (λ groups. groups
         ≡ map without_windows (filter (is_shown one) (all_grouped gathered.items))) }
     ensures in_order { IfOk result (All IsInOrder) }

@@ -1,7 +1,7 @@
 //! Rows by groups.
-ghost use Rattle.std.specs.Prelude.{◌≡◌, ◌≤◌, ◌<◌, ℕ, IfOk, OnOk, map, length, MatchResult};
-ghost use Rattle.td_verdict.specs.Groups.{empty_group, put_group};
-ghost use Rattle.td_query.specs.Read.{all_grouped, listed, wanted_from, PutsAt, PutsIn, Opens};
+ghost use Rattle.std.specs.Prelude.{◌≡◌, IfOk, OnOk, MatchResult};
+ghost use Rattle.td_verdict.specs.Groups.{put_group};
+ghost use Rattle.td_query.specs.Read.{all_grouped, listed, wanted_from, parts_of, StandsAt, GoesTo, IsOpened};
 
 use crate::parts::part_order;
 use crate::rows::{Sorted, put_table};
@@ -13,18 +13,17 @@ use td_layer::{Cell, NoMem, Row, Seq};
 use td_model::Plan;
 use td_verdict::Comparison;
 
-/// A group whose rows are being gathered: the cells of the PARTITION BY items, and the rows by timestamp, then by
-/// table.
+/// A group whose rows are being read: the cells of the PARTITION BY items, and what is kept of the rows.
 #[derive(Drop)]
-pub(crate) struct Gathered {
+pub(crate) struct Gathered<W> {
     pub(crate) part: Seq<Cell>,
-    pub(crate) rows: Sorted,
+    pub(crate) kept: W,
 }
 
 // The place of the group of a partition among groups that stand in the order of their partitions, or the place at which
 // it goes.
-fn place_for(groups: &[Gathered], part: &Seq<Cell>) -> Result<usize, usize>
-    ensures { MatchResult result (PutsAt part.now (all_grouped groups.now)) (PutsIn part.now (all_grouped groups.now)) }
+fn place_for<W>(groups: &[Gathered<W>], part: &Seq<Cell>) -> Result<usize, usize>
+    ensures { MatchResult result (StandsAt part.now (parts_of groups.now)) (GoesTo part.now (parts_of groups.now)) }
 {
     let mut at = 0;
     'groups: while at < groups.len() {
@@ -37,16 +36,19 @@ fn place_for(groups: &[Gathered], part: &Seq<Cell>) -> Result<usize, usize>
     Err(at)
 }
 
-// The place of the group of a partition, which is made where there is none.
-fn group_for(alloc: Global, groups: &mut Vec<Gathered>, part: &Seq<Cell>) -> Result<usize, NoMem>
-    ensures { IfOk result (λ at. Opens part.now (all_grouped groups.old.items) (all_grouped groups.new.items) at) }
+/// The place of the group of a partition. Where there is none it is made, with `fresh` for what is kept of no row.
+pub(crate) fn group_for<W: Drop>(
+    groups: &mut Vec<Gathered<W>>,
+    part: &Seq<Cell>,
+    fresh: W,
+) -> Result<usize, NoMem>
+    ensures { IfOk result (IsOpened part.now fresh groups.old.items groups.new.items) }
 {
     match place_for(groups.as_slice(), part) {
         Ok(at) => Ok(at),
         Err(at) => {
             let part = part.copy()?;
-            let rows = BTreeMap::new(alloc);
-            groups.insert(at, Gathered { part, rows })?;
+            groups.insert(at, Gathered { part, kept: fresh })?;
             Ok(at)
         }
     }
@@ -59,14 +61,14 @@ pub(crate) fn put_found(
     comparisons: &[Comparison],
     table: &Table<'_>,
     found: Seq<(u64, Row)>,
-    groups: &mut Vec<Gathered>,
+    groups: &mut Vec<Gathered<Sorted>>,
 ) -> Result<(), NoMem>
     ensures { OnOk result (all_grouped groups.new.items
         ≡ put_group table.now.part.now (wanted_from plan.now.schema.columns comparisons.now plan.now.lo plan.now.hi
         (listed table.now) found) (all_grouped groups.old.items)) }
 {
-    let at = group_for(alloc, groups, table.part)?;
+    let at = group_for(groups, table.part, BTreeMap::new(alloc))?;
     let group = &mut groups[at];
-    put_table(plan, comparisons, table, found, &mut group.rows)?;
+    put_table(plan, comparisons, table, found, &mut group.kept)?;
     Ok(())
 }

@@ -57,8 +57,8 @@ fn part_place(parts: &[PartBy], item: &ItemKind) -> Option<usize>
     parts.iter().position(|part| is_part(item, part))
 }
 
-// The group's cell of an item; one that is missing is NULL.
-fn part_cell(parts: &[PartBy], cells: &Seq<Cell>, item: &ItemKind) -> Result<Cell, NoMem>
+/// The group's cell of an item; one that is missing is NULL.
+pub(crate) fn part_cell(parts: &[PartBy], cells: &Seq<Cell>, item: &ItemKind) -> Result<Cell, NoMem>
     ensures { IfOk result (λ cell. cell ≡ part_cell parts.now cells.now item.now) }
 {
     match part_place(parts, item) {

@@ -1,10 +1,13 @@
 //! [answers] Queries with aggregates, windows and PARTITION BY, over a snapshot of rows.
 //!
-//! [`answer`] gives a part of the answer of a plan. For a plan with an aggregate, a window or PARTITION BY it does what
-//! [`gather`], [`finish`] and [`arrange`] do one after another. [`gather`] reads the tables of the plan and gives the
-//! rows of which all conditions are true, in groups by the cells of the PARTITION BY items. [`finish`] cuts a group
-//! into its windows, each with its cells. [`arrange`] puts the windows of groups in the order of the answer and gives
-//! the part of them that OFFSET and LIMIT leave. A row query's rows are picked and shown in one go.
+//! [`answer`] gives a part of the answer of a plan. A plan without a session or state window needs no rows: its tables
+//! are read one after another, and of the rows of each window of each group only a sum is kept, which is their number
+//! and the tally of each column that an aggregate is asked of. For a session or a state window it does what [`gather`],
+//! [`finish`] and [`arrange`] do one after another; so it does for a plan in which the numbers of tables don't rise.
+//! [`gather`] reads the tables of the plan and gives the rows of which all conditions are true, in groups by the cells
+//! of the PARTITION BY items. [`finish`] cuts a group into its windows, each with its cells; a kind of window is an
+//! implementation of `cutters::Cutter`. [`arrange`] puts the windows of groups in the order of the answer and gives the
+//! part of them that OFFSET and LIMIT leave. A row query's rows are picked and shown in one go.
 //!
 //! It is promised that what is given is that part of the answer that the definitions say, over the rows that the
 //! snapshot stands for; that each table is read once, with no more steps than reading it takes; and which fault comes
@@ -22,8 +25,12 @@
 mod answers;
 mod arranging;
 mod cells;
+mod closing;
 mod columns;
+mod cutters;
 mod finishing;
+mod frames;
+mod framing;
 mod gathering;
 mod groups;
 mod items;
@@ -32,8 +39,12 @@ mod parts;
 mod picks;
 mod rows;
 mod shown;
+mod slots;
 mod spans;
+mod summing;
+mod sums;
 mod tables;
+mod totals;
 
 pub use answers::answer;
 pub use arranging::arrange;

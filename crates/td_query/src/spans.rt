@@ -1,20 +1,16 @@
 //! The windows of rows as spans.
-ghost use Rattle.std.specs.Prelude.{◌≡◌, ◌<◌, ◌≤◌, pos, false, [], ◌∷◌, IfOk, All, length, map};
+ghost use Rattle.std.specs.Prelude.{◌≡◌, ◌<◌, ◌≤◌, pos, [], ◌∷◌, IfOk, All, length, map};
 ghost use Rattle.std.specs.List.{AllByRecursion};
 ghost use Rattle.std.specs.List.Sorted.{IsNonDecreasing};
 ghost use Rattle.td_window.specs.Spans.{time_of, window_over, window_over_states, IsInside};
 ghost use Rattle.td_window.specs.Windows.{session_windows, state_windows};
-ghost use Rattle.td_query.specs.Cuts.{kept_by, window_of_span, IsAmong};
 ghost use Rattle.td_query.specs.Read.{IsGood};
-ghost use Rattle.td_verdict.specs.Refusals.{has_bad_bounds};
-ghost use Rattle.td_verdict.specs.Windowed.{value_at, interval_windows, windows_of};
+ghost use Rattle.td_verdict.specs.Windowed.{value_at, interval_windows};
 
-use crate::columns::{Kept, value_at};
+use crate::columns::value_at;
 use std::alloc::Global;
-use td_fields::place_of;
 use td_layer::{Key, NoMem, Row, Seq, Value};
 use td_limits::{LAST_TIMESTAMP, LONGEST_DURATION};
-use td_model::{Column, WindowDef};
 use td_window::{
     Span, interval, interval_windows_are_determined, session, spans_group_rows, state,
 };
@@ -41,8 +37,8 @@ fn states_of(alloc: Global, place: Option<usize>, rows: &[(Key, Row)]) -> Result
     Ok(states)
 }
 
-// The interval windows of rows.
-fn intervals_of(
+/// The interval windows of rows.
+pub(crate) fn intervals_of(
     alloc: Global,
     len: u64,
     offset: u64,
@@ -65,8 +61,8 @@ fn intervals_of(
     Ok(spans)
 }
 
-// The sessions of rows.
-fn sessions_of(alloc: Global, tol: u64, rows: &[(Key, Row)]) -> Result<Seq<Span>, NoMem>
+/// The sessions of rows.
+pub(crate) fn sessions_of(alloc: Global, tol: u64, rows: &[(Key, Row)]) -> Result<Seq<Span>, NoMem>
     requires in_order { IsNonDecreasing (map time_of rows.now) }
     requires good { AllByRecursion (IsGood LAST_TIMESTAMP) rows.now }
     ensures inside { IfOk result (All (IsInside (length rows.now))) }
@@ -78,8 +74,12 @@ fn sessions_of(alloc: Global, tol: u64, rows: &[(Key, Row)]) -> Result<Seq<Span>
     Ok(spans)
 }
 
-// The state windows of rows, by the state in the column at a place.
-fn state_spans(alloc: Global, place: Option<usize>, rows: &[(Key, Row)]) -> Result<Seq<Span>, NoMem>
+/// The state windows of rows, by the state in the column at a place.
+pub(crate) fn state_spans(
+    alloc: Global,
+    place: Option<usize>,
+    rows: &[(Key, Row)],
+) -> Result<Seq<Span>, NoMem>
     requires good { AllByRecursion (IsGood LAST_TIMESTAMP) rows.now }
     ensures inside { IfOk result (All (IsInside (length rows.now))) }
     ensures windows { IfOk result (λ spans. map (window_over_states (value_at place) rows.now) spans
@@ -92,8 +92,8 @@ fn state_spans(alloc: Global, place: Option<usize>, rows: &[(Key, Row)]) -> Resu
     Ok(spans)
 }
 
-// The span of all rows, from 0 to 0.
-fn whole_span(alloc: Global, rows: &[(Key, Row)]) -> Result<Seq<Span>, NoMem>
+/// The span of all rows, from 0 to 0.
+pub(crate) fn whole_span(alloc: Global, rows: &[(Key, Row)]) -> Result<Seq<Span>, NoMem>
     ensures { IfOk result (λ spans. spans ≡ record
         { start = pos 0; end = pos 0; first = 0; rows = length rows.now } ∷ []) }
 {
@@ -105,48 +105,4 @@ fn whole_span(alloc: Global, rows: &[(Key, Row)]) -> Result<Seq<Span>, NoMem>
         rows: rows.len() as u64,
     })?;
     Ok(spans)
-}
-
-/// Which rows belong to the windows of a query.
-pub(crate) fn kept_by(columns: &[Column], window: &WindowDef) -> Kept
-    ensures { result ≡ kept_by columns.now window.now }
-{
-    match window {
-        WindowDef::State { column } => Kept::WithState(place_of(columns, column)),
-        WindowDef::Whole | WindowDef::Interval { .. } | WindowDef::Session { .. } => Kept::All,
-    }
-}
-
-/// The windows of rows as spans. The whole is one window, from 0 to 0, also where there is no row.
-pub(crate) fn spans_of(
-    alloc: Global,
-    columns: &[Column],
-    window: &WindowDef,
-    rows: &[(Key, Row)],
-) -> Result<Seq<Span>, NoMem>
-    requires bounds { has_bad_bounds window.now ≡ false }
-    requires in_order { IsNonDecreasing (map time_of rows.now) }
-    requires good { AllByRecursion (IsGood LAST_TIMESTAMP) rows.now }
-    ensures among { IfOk result (All (IsAmong (length rows.now))) }
-    ensures windows { IfOk result (λ spans. map (window_of_span (kept_by columns.now window.now) rows.now) spans
-        ≡ windows_of columns.now window.now rows.now) }
-{
-    match window {
-        WindowDef::Whole => {
-            let spans = whole_span(alloc, rows)?;
-            Ok(spans)
-        }
-        WindowDef::Interval { len, offset, slide } => {
-            let spans = intervals_of(alloc, *len, *offset, *slide, rows)?;
-            Ok(spans)
-        }
-        WindowDef::Session { tol, .. } => {
-            let spans = sessions_of(alloc, *tol, rows)?;
-            Ok(spans)
-        }
-        WindowDef::State { column } => {
-            let spans = state_spans(alloc, place_of(columns, column), rows)?;
-            Ok(spans)
-        }
-    }
 }

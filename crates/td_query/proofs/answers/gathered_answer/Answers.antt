@@ -10,7 +10,7 @@ use Rattle.td_query.specs.Gathered.{grouped_of, without_windows}
 use Rattle.td_query.specs.Planned.{groups_of}
 use Rattle.td_query.specs.declared.gathering.Group.{Group}
 use Rattle.td_query.proofs.ByGroup.{of_grouped}
-use Rattle.td_query.proofs.answers.windows_answer.Goals as goal
+use Rattle.td_query.proofs.answers.gathered_answer.Goals as goal
 
 pub returns-clause-part : goal.returns-clause-part
 returns-clause-part g c = go (g.Q.Snapshot.rows c.args.snap.now) c.in_ok-groups.ensures.groups
