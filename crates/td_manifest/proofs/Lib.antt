@@ -6,3 +6,4 @@ pub mod FileLaws
 pub mod StreamLaws
 pub mod HeadLaws
 pub mod WritingLaws
+pub mod PlaceLaws

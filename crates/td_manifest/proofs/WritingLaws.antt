@@ -34,7 +34,7 @@ use Rattle.td_manifest.specs.Columns.{kind_by, text_size, kind_field, has_column
 use Rattle.td_manifest.specs.Tables.{latest_field, schema_field, stable_names, stable_behind, stable_items, suits, is_tag_text, tag_form, tag_cell, tag_cell_of, tag_cell_items, tag_cells, tags_of, body_form, table_body, table_names, table_behind, table_items}
 use Rattle.td_manifest.specs.Files.{is_used, main_file, all_files, stt_items, rises, set_files, set_behind, set_items}
 use Rattle.td_manifest.specs.Streams.{number_field, made_field, statement_text, upto_field, step_moment, stream_behind, stream_items}
-use Rattle.td_manifest.specs.Heads.{begun, start_field, stables_field, tables_field, sets_field, next_field, streams_field, objects_field, head_body, framed, IsHead, HasBytes}
+use Rattle.td_manifest.specs.Heads.{begun, start_field, stables_field, tables_field, sets_field, next_field, streams_field, objects_field, head_body, framed, IsHead}
 use Rattle.td_manifest.proofs.TableLaws.{sub_of}
 use Rattle.td_manifest.specs.Writing.{size_bytes, can_put_column, can_put_columns, can_put_cells, can_put_stable, can_put_table, can_put_set, can_put_stream, always}
 
@@ -227,16 +227,13 @@ unfolding framed
 framed_size n h rest is =
     omega (arith, ap length is, length-append (codes "TDH1") (to_le_bytes w64 n ++ rest_of h), length-append (to_le_bytes w64 n) (rest_of h), wide64.len n)
 
-pub rest_fits : (h : Head) (rest : List ℕ) → HasBytes h → rest ≡ rest_of h → length rest + 12 < 2 ^ 64
-rest_fits h rest has is = omega (arith, has.size, framed_size 0 h rest is)
-
-pub head_written : (h : Head) (rest out : List ℕ) → HasBytes h → rest ≡ rest_of h → out ≡ codes "TDH1" ++ (to_le_bytes w64 (length rest + 12) ++ rest) → IsHead out h
+pub head_written : (h : Head) (rest out : List ℕ) → head_body.fits h ≡ true → length out < 2 ^ 64 → rest ≡ rest_of h → out ≡ codes "TDH1" ++ (to_le_bytes w64 (length rest + 12) ++ rest) → IsHead out h
 unfolding framed
-head_written h rest out has rest_is out_is =
+head_written h rest out fits few rest_is out_is =
     let size = length rest + 12 in
     let whole : out ≡ framed size h = out_is ∙ ap (λ (l : List ℕ). codes "TDH1" ++ (to_le_bytes w64 size ++ l)) rest_is in
     let len : length out ≡ size = ap length whole ∙ framed_size size h rest rest_is in
-    record { bytes_are = whole ∙ ap (λ (n : ℕ). framed n h) (sym len); size = omega (arith, len, rest_fits h rest has rest_is); fits = has.fits }
+    record { bytes_are = whole ∙ ap (λ (n : ℕ). framed n h) (sym len); size = few; fits = fits }
 
 -- ---- one put after the other
 

@@ -1,6 +1,8 @@
 pub mod Columns
 pub mod Files
 pub mod Heads
+pub mod Places
+pub mod States
 pub mod Listed
 pub mod Names
 pub mod Parts

@@ -10,6 +10,10 @@
 //! head is a relation of bytes and values, made of fields, and it is proved that bytes are one head at most, break the
 //! form at one place, and that a head has one spelling. So what was written is read back.
 //!
+//! A head may name a file that isn't there, or have a stream whose text isn't accepted. Who finds that out is told where
+//! it stands: [`place_of_file`] gives the place of a file's number, and [`place_of_stream`] that of the first stream's
+//! text. It is proved that the number and the text stand there in the bytes.
+//!
 //! Reading takes time in proportion to the bytes: names and files that were read are kept in hash sets (`IndexSet`),
 //! whose keys in their order are the names and the files so far; a supertable is found by its number. The columns of
 //! one table, of which there are 288 at most, are compared one by one.
@@ -25,6 +29,7 @@ mod head;
 mod laws;
 mod lists;
 mod names;
+mod places;
 mod reading;
 mod streams;
 mod tables;
@@ -32,6 +37,7 @@ mod writing;
 
 pub use fault::HeadFault;
 pub use head::{Head, HeadSet, HeadStable, HeadStream, HeadTable};
-pub use laws::one_head;
+pub use laws::{a_stream_stands_at_its_place, files_stand_at_their_places, one_head};
+pub use places::{place_of_file, place_of_stream};
 pub use reading::decode;
 pub use writing::encode;

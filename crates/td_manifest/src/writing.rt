@@ -9,7 +9,7 @@ ghost use Rattle.td_manifest.specs.Columns.{column_items, kind_field, columns_fi
 ghost use Rattle.td_manifest.specs.Tables.{stable_items, table_items, table_bytes, tag_cells};
 ghost use Rattle.td_manifest.specs.Files.{set_items};
 ghost use Rattle.td_manifest.specs.Streams.{statement_text, stream_items};
-ghost use Rattle.td_manifest.specs.Heads.{start_field, objects_field, head_body, HasBytes, IsHead};
+ghost use Rattle.td_manifest.specs.Heads.{start_field, objects_field, head_body, IsHead};
 ghost use Rattle.td_manifest.specs.Writing.{can_put_column, can_put_columns, can_put_cells, can_put_stable, can_put_table, can_put_set, can_put_stream, always};
 ghost use Rattle.td_manifest.specs.declared.columns.Place.TheVariants.{First};
 
@@ -22,7 +22,7 @@ use td_layer::{Cell, Name, NoMem, Seq};
 use td_model::Column;
 
 /// A value that stands as bytes.
-trait Put {
+pub(crate) trait Put {
     /// Its bytes.
     ghost spelled: { Self → List ℕ };
 
@@ -48,7 +48,7 @@ fn put_all<T: Put>(out: &mut Name, items: &[T]) -> Result<(), NoMem>
 
 /// Adds a list: its count in 32 bits, and its items.
 #[tactic(auto, using(std::proofs::lemmas::List::append_assoc))]
-fn put_list<T: Put>(out: &mut Name, items: &[T]) -> Result<(), NoMem>
+pub(crate) fn put_list<T: Put>(out: &mut Name, items: &[T]) -> Result<(), NoMem>
     requires few { length items.now < 2 ^ 32 }
     requires can_put { IsTrue (list_all T.can_put items.now) }
     ensures { OnOk result (out.new ≡ out.old ++ (to_le_bytes w32 (length items.now) ++ flat_map T.spelled items.now)) }
@@ -233,7 +233,7 @@ impl Put for HeadStream {
 // ---- the head
 
 /// Adds what a head says before its objects.
-fn put_start(out: &mut Name, head: &Head) -> Result<(), NoMem>
+pub(crate) fn put_start(out: &mut Name, head: &Head) -> Result<(), NoMem>
     ensures { OnOk result (out.new ≡ out.old
         ++ start_field.spelled (head.now.version, (head.now.moment, (head.now.first_log, head.now.edge)))) }
 {
@@ -277,7 +277,7 @@ fn put_rest(out: &mut Name, head: &Head) -> Result<(), NoMem>
 /// The bytes of a head: the one spelling that it has.
 #[tactic(auto, using(crate::proofs::WritingLaws::head_written))]
 pub fn encode(alloc: Global, head: &Head) -> Result<Seq<u8>, NoMem>
-    requires { HasBytes head.now }
+    requires { IsTrue (head_body.fits head.now) }
     ensures { IfOk result (λ bytes. IsHead bytes head.now) }
 {
     let mut rest = Seq::new(alloc);

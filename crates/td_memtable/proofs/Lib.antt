@@ -5,3 +5,4 @@ pub mod Joining
 pub mod Rising
 pub mod OneJoin
 pub mod Firsts
+pub mod Walked

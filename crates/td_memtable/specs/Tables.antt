@@ -1,5 +1,5 @@
 -- The tables that a memtable has a put or a cut of.
-use Rattle.std.specs.Prelude.{◌≡◌, ℕ, ◌==◌, ◌<◌, ◌≤◌, ◌⊎◌, min, Bool, true, ◌||◌, List, Option, Some, None}
+use Rattle.std.specs.Prelude.{◌≡◌, ℕ, ◌==◌, ◌<◌, ◌≤◌, ◌⊎◌, min, nat_le, Bool, true, ◌&&◌, ◌||◌, List, [], ◌∷◌, Option, Some, None}
 use Rattle.std.specs.List.{AllByRecursion, list_any}
 use Rattle.td_layer.specs.declared.values.Key.{Key}
 use Rattle.td_memtable.specs.Contents.{Contents}
@@ -34,3 +34,12 @@ pub record IsFirstTable (from : ℕ) (m : Contents) (table : ℕ) : Type 0 where
   pub some : (has_table table m.puts || has_table table m.cuts) ≡ true
   pub no_put : NoneBetween from table m.puts
   pub no_cut : NoneBetween from table m.cuts
+
+-- the timestamp of the first of some pairs
+abbrev pub first_time : {T : Type 0} → List (Key × T) → Option ℕ
+first_time [] = None
+first_time (e ∷ es) = Some e.0.ts
+
+-- whether one of some cuts meets the timestamps from one to another
+abbrev pub meets_cut : ℕ → ℕ → List (Key × ℕ) → Bool
+meets_cut lo hi cuts = list_any (λ (c : Key × ℕ). nat_le c.0.ts hi && nat_le lo c.1) cuts

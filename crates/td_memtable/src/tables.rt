@@ -1,6 +1,9 @@
-//! The tables that a memtable has parts of.
-ghost use Rattle.std.specs.Prelude.{◌≡◌, MatchOption};
-ghost use Rattle.td_memtable.specs.Tables.{NoneFrom, FirstOf, earlier, IsFirstTable};
+//! The tables, the timestamps and the day ranges that a memtable has parts of.
+ghost use Rattle.std.specs.Prelude.{◌≡◌, ◌-◌, ◌^◌, MatchOption};
+ghost use Rattle.td_layer.specs.Keys.{InKeyOrder};
+ghost use Rattle.td_memtree.specs.Within.{pairs_within};
+ghost use Rattle.td_memtable.specs.Contents.{key_at};
+ghost use Rattle.td_memtable.specs.Tables.{NoneFrom, FirstOf, earlier, IsFirstTable, first_time, meets_cut};
 
 use crate::memtable::Memtable;
 use td_layer::Key;
@@ -38,5 +41,37 @@ impl Memtable {
         let put = first_from(&self.puts, from);
         let cut = first_from(&self.cuts, from);
         earlier(put, cut)
+    }
+
+    /// The least timestamp, from one on, of the puts of a table, by number. None comes exactly where it has no such put. It
+    /// takes the time of a look-up.
+    pub fn first_put(&self, table: u32, from: u64) -> Option<u64>
+        ensures first { result
+            ≡ first_time (pairs_within (key_at table from) (key_at table (2 ^ 64 - 1)) self.now.puts) }
+        ensures in_order { InKeyOrder (pairs_within (key_at table from) (key_at table (2 ^ 64 - 1)) self.now.puts) }
+    {
+        let first = Key { table, ts: from };
+        let last = Key {
+            table,
+            ts: u64::MAX,
+        };
+        let mut rest = self.puts.range(first, last);
+        match rest.next() {
+            None => None,
+            Some((key, _)) => Some(key.ts),
+        }
+    }
+
+    /// Whether a cut, of whatever table, meets the timestamps from `lo` to `hi`, both among them. It takes the time of a walk
+    /// over the cuts.
+    pub fn meets_cut(&self, lo: u64, hi: u64) -> bool
+        ensures { result ≡ meets_cut lo hi self.now.cuts }
+    {
+        for (key, end) in self.cuts.walk(Key { table: 0, ts: 0 }) {
+            if key.ts <= hi && lo <= *end {
+                return true;
+            }
+        }
+        false
     }
 }

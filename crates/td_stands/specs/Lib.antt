@@ -1,0 +1,5 @@
+pub mod Heads
+pub mod Replay
+pub mod Stands
+pub mod Breaks
+pub mod Laws
