@@ -133,6 +133,14 @@ impl RowLevels {
         }
     }
 
+    /// The active memtable, of the same nodes.
+    pub fn share_active(&self) -> Result<Memtable, NoMem>
+        ensures { IfOk result (λ m. m ≡ self.now.active) }
+    {
+        let shared = self.active.share()?;
+        Ok(shared)
+    }
+
     /// The memtables, the newest first, of the same nodes.
     pub fn share_memtables(&self) -> Result<Vec<Memtable>, NoMem>
         ensures { IfOk result (λ ms. ms.items ≡ memtables_of self.now) }
@@ -150,6 +158,13 @@ impl RowLevels {
         ensures { result.now ≡ self.now.frozen }
     {
         &self.frozen
+    }
+
+    // The memtable that takes entries.
+    pub(crate) fn active(&self) -> &Memtable
+        ensures { result.now ≡ self.now.active }
+    {
+        &self.active
     }
 
     // Where memory is taken.

@@ -3,8 +3,7 @@
 //!
 //! The rows of a store are what its levels make, the newer over the older (`Levels`). An entry goes into the active
 //! memtable; a freeze puts that aside, and a new one takes entries; a commit writes the frozen one to files, one for
-//! each day range that gets one, and the files take its place. [`RowLevels`] keeps the memtables and the names of the
-//! files; it reads and writes none.
+//! each day range that gets one, and the files take its place.
 //!
 //! It is promised that the rows are those of the state after each of these: an entry makes of them what it makes of the
 //! rows of a state, and a freeze and a commit leave them as they are. A plan reads the rows of its tables in its range

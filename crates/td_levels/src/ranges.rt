@@ -123,4 +123,14 @@ impl RowLevels {
             }
         }
     }
+
+    /// The day ranges at or above an edge that would get a file of the active memtable, were it frozen, rising.
+    pub fn active_ranges(&self, edge: u32) -> Result<Seq<u32>, NoMem>
+        requires times { TimesFit self.now.active }
+        requires ranges { RangesFit self.now.sets }
+        ensures { IfOk result (AreRangesOf self.now.active self.now.sets edge) }
+    {
+        let ranges = ranges_of(self.alloc(), self.active(), self.sets(), edge)?;
+        Ok(ranges)
+    }
 }

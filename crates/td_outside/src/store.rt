@@ -113,6 +113,7 @@ pub trait Store: Send {
         ensures number { IfOk result (λ n. n < 2 ^ 64 - 1) }
         ensures ok { IfOk result (λ n. IfSome (Self.Writer.written w)
             (λ bytes. Along (Finishes (Self.Writer.name w) n bytes) (told self.old) (told self.new))) }
+        ensures untold { told self.old ≡ None → told self.new ≡ None }
         ensures failed { OnErr result (Along (GivesUp (Self.Writer.name w)) (told self.old) (told self.new)) }
         ensures cause { TakesOver (count self.old) (Self.Writer.count w) (count self.new) result };
 

@@ -78,12 +78,12 @@ step_rows s e rows = effect_rows (s ∷ []) (with_rows rows s ∷ []) e.what (re
 -- ---- items
 
 -- the same item comes next, and says the same
-record SameNext (i : LogItem) (s t : State) (n : IsNext i s t) (rows : Rows) : Type 0 where
-  after : Rows
-  next : IsNext i (with_rows rows s) (with_rows after t)
-  says : next.what ≡ n.what
+pub record SameNext (i : LogItem) (s t : State) (n : IsNext i s t) (rows : Rows) : Type 0 where
+  pub after : Rows
+  pub next : IsNext i (with_rows rows s) (with_rows after t)
+  pub says : next.what ≡ n.what
 
-next_rows : (i : LogItem) (s t : State) (n : IsNext i s t) (rows : Rows) → SameNext i s t n rows
+pub next_rows : (i : LogItem) (s t : State) (n : IsNext i s t) (rows : Rows) → SameNext i s t n rows
 next_rows i s t n rows =
     let made = step_rows s (entry_at i.session i.ordinal i.moment n.what) rows in
     record {

@@ -19,22 +19,23 @@ use Rattle.td_wal.specs.declared.item.LogItem.{LogItem}
 use Rattle.td_wal.specs.Log.{IsLog, BreaksAt, opened}
 use Rattle.td_wal.proofs.LogLaws.{one_log, log_or_break, one_break}
 use Rattle.td_levels.specs.Taken.{taken, parts_of}
+use Rattle.td_stands.specs.declared.file_id.FileId.{FileId}
 use Rattle.td_stands.specs.declared.file_id.FileId.TheVariants as files
 use Rattle.td_stands.specs.Heads.{state_of_head, empty_head, HeadIs}
 use Rattle.td_stands.specs.Replay.{IsNext, Replays}
 use Rattle.td_stands.specs.Stands.{HasItems, Holds, Stands}
-use Rattle.td_stands.specs.Breaks.{CannotFollow, Refuses, AreWhole, BreaksOff, LogBreaksOff, HasOpenGate, SecondBreaks, FirstMissing, HeadRefuses, HeadBreaks, HeadStands}
+use Rattle.td_stands.specs.Breaks.{CannotFollow, Refuses, AreWhole, BreaksOff, LogBreaksOff, HasOpenGate, SecondBreaks, FirstMissing, HeadRefuses, HeadBreaks, HeadStands, BreaksFirst}
 use Rattle.td_stands.specs.Laws.{with_rows, EmptyStoreStands, OneState, OnePlace, StandsOrBreaks}
 use Rattle.td_stands.proofs.Replaying.{one_what, behind_one, one_replay, replays_split, replays_version}
 use Rattle.td_stands.proofs.Rows.{rows_have_no_part}
 
 -- ---- one head, and one list of items of a log
 
-one_head : (o : Option (List ℕ)) (a b : Head) → HeadIs o a → HeadIs o b → a ≡ b
+pub one_head : (o : Option (List ℕ)) (a b : Head) → HeadIs o a → HeadIs o b → a ≡ b
 one_head None a b p q = p ∙ sym q
 one_head (Some bytes) a b p q = heads.one_head bytes a b p q
 
-one_items : (first : ℕ) (a b : List LogItem) (o : Option Log) → HasItems first a o → HasItems first b o → a ≡ b
+pub one_items : (first : ℕ) (a b : List LogItem) (o : Option Log) → HasItems first a o → HasItems first b o → a ≡ b
 one_items first a b None p q = p ∙ sym q
 one_items first a b (Some log) p q = one_log first log.bytes a b p q
 
@@ -144,15 +145,15 @@ refused items s t m at p r =
     let here = subst (λ (x : Contents). Ends r.next parts.0 x) (sym same.1) of_state in
     here parts.3.0 parts.3.1 parts.3.2
 
-whole_or_break : (first : ℕ) (bytes : List ℕ) (s t : State) (m : Contents) (items : List LogItem) (at : ℕ) → IsLog first bytes items → Replays s nothing_held items t m → BreaksOff first s bytes at → ⊥
-whole_or_break first bytes s t m items at log p (inl (others, inl whole, r)) =
+log_or_off : (first : ℕ) (bytes : List ℕ) (s t : State) (m : Contents) (items : List LogItem) (at : ℕ) → IsLog first bytes items → Replays s nothing_held items t m → BreaksOff first s bytes at → ⊥
+log_or_off first bytes s t m items at log p (inl (others, inl whole, r)) =
     refused items s t m at p (subst (λ (l : List LogItem). Refuses s l at) (one_log first bytes others items whole log) r)
-whole_or_break first bytes s t m items at log p (inl (others, inr (end, breaks), r)) = log_or_break first bytes items others end log breaks
-whole_or_break first bytes s t m items at log p (inr (others, u, n, q, breaks)) = log_or_break first bytes items others at log breaks
+log_or_off first bytes s t m items at log p (inl (others, inr (end, breaks), r)) = log_or_break first bytes items others end log breaks
+log_or_off first bytes s t m items at log p (inr (others, u, n, q, breaks)) = log_or_break first bytes items others at log breaks
 
 items_or_break : (first : ℕ) (s t : State) (m : Contents) (items : List LogItem) (o : Option Log) (at : ℕ) → HasItems first items o → Replays s nothing_held items t m → LogBreaksOff first s o at → ⊥
 items_or_break first s t m items None at log p b = b
-items_or_break first s t m items (Some l) at log p b = whole_or_break first l.bytes s t m items at log p b
+items_or_break first s t m items (Some l) at log p b = log_or_off first l.bytes s t m items at log p b
 
 -- a log with an open gate at its first byte has items
 open_bytes : (first : ℕ) (bytes rest : List ℕ) → IsLog first bytes [] → bytes ≡ 1 ∷ rest → ⊥
@@ -161,7 +162,7 @@ open_bytes first bytes rest log open_gate = log.closed (first_is (sym log.bytes_
     first_is : {a b : ℕ} {xs ys : List ℕ} → a ∷ xs ≡ b ∷ ys → a ≡ b
     first_is e = cc
 
-open_has_items : (first : ℕ) (items : List LogItem) (o : Option Log) → HasItems first items o → HasOpenGate o → items ≢ []
+pub open_has_items : (first : ℕ) (items : List LogItem) (o : Option Log) → HasItems first items o → HasOpenGate o → items ≢ []
 open_has_items first items None log open_gate none = open_gate
 open_has_items first items (Some l) log open_gate none = open_bytes first l.bytes open_gate.0 (subst (λ (x : List LogItem). IsLog first l.bytes x) none log) open_gate.1
 
@@ -198,18 +199,18 @@ stands_or_head image h at p b = head_or_break image h image.head at p.head p.fin
 -- ---- a state, or a break
 
 -- what the logs of an image make of the state of a head without rows
-record Bare (image : Image) (h : Head) : Type 0 where
-  older : List LogItem
-  newer : List LogItem
-  between : State
-  last : State
-  frozen : Contents
-  active : Contents
-  first_log : HasItems (h.version + 1) older (image.logs h.first_log)
-  second_log : HasItems (between.version + 1) newer (image.logs (h.first_log + 1))
-  in_order : newer ≢ [] → older ≢ []
-  first : Replays (state_of_head h []) nothing_held older between frozen
-  second : Replays between nothing_held newer last active
+pub record Bare (image : Image) (h : Head) : Type 0 where
+  pub older : List LogItem
+  pub newer : List LogItem
+  pub between : State
+  pub last : State
+  pub frozen : Contents
+  pub active : Contents
+  pub first_log : HasItems (h.version + 1) older (image.logs h.first_log)
+  pub second_log : HasItems (between.version + 1) newer (image.logs (h.first_log + 1))
+  pub in_order : newer ≢ [] → older ≢ []
+  pub first : Replays (state_of_head h []) nothing_held older between frozen
+  pub second : Replays between nothing_held newer last active
 
 next_after : (a b n : ℕ) → b ≡ a + n → a + 1 + n ≡ b + 1
 next_after a b n e = omega arith
@@ -259,6 +260,16 @@ stands_or_breaks image s (files.Log n) at p (h, stands, inl (is, b)) =
 stands_or_breaks image s (files.Log n) at p (h, stands, inr (is, older, between, m, log, q, b)) =
     bare_or_second image h (bare_of image s h p stands.head) at older between m log q b
 stands_or_breaks image s (files.File n) at p b = b
+
+-- an image whose head breaks nowhere, and of whose state the logs make another, breaks nowhere
+pub whole_or_break : (image : Image) (h : Head) (file : FileId) (at : ℕ) → HeadStands image h → Bare image h → BreaksFirst image file at → ⊥
+whole_or_break image h files.Head at stands p b = stands_or_head image h at stands b
+whole_or_break image h (files.Log n) at stands p (k, others, inl (is, b)) =
+    let q = subst (λ (x : Head). Bare image x) (one_head image.head h k stands.head others.head) p in
+    items_or_break (k.version + 1) (state_of_head k []) q.between q.frozen q.older (image.logs k.first_log) at q.first_log q.first b
+whole_or_break image h (files.Log n) at stands p (k, others, inr (is, older, between, m, log, q, b)) =
+    bare_or_second image k (subst (λ (x : Head). Bare image x) (one_head image.head h k stands.head others.head) p) at older between m log q b
+whole_or_break image h (files.File n) at stands p b = b
 
 -- ---- one place in a log
 

@@ -15,7 +15,6 @@ set_files s = record { range = s.range; stt = reverse s.stt; main = s.main }
 abbrev pub levels_of_head : Head → Levels
 levels_of_head h = record { active = nothing_held; frozen = None; sets = map set_files h.sets }
 
--- the head whose bytes a store has, and the empty one where it has none
 abbrev pub HeadIs : Option (List ℕ) → Head → Type 0
 HeadIs None h = h ≡ empty_head
 HeadIs (Some bytes) h = IsHead bytes h
