@@ -1,0 +1,4 @@
+pub mod Active
+pub mod Stored
+pub mod Standing
+pub mod Carried

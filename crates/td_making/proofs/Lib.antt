@@ -1,0 +1,3 @@
+pub mod CommitHeads
+pub mod NextSets
+pub mod Stores

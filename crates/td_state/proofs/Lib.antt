@@ -1,0 +1,14 @@
+pub mod Subtables
+pub mod Parts
+pub mod Steps
+pub mod Right
+pub mod NamedItems
+pub mod HeadColumns
+pub mod HeadTags
+pub mod HeadTables
+pub mod HeadFits
+pub mod Made
+pub mod ToHead
+pub mod TableKinds
+pub mod Planned
+pub mod Judged
