@@ -1,5 +1,6 @@
 //! Bytes as a line shows them.
 use crate::fault::CaseFault;
+use crate::hex::{digit, hex};
 use crate::out::Out;
 use std::alloc::Global;
 
@@ -83,14 +84,6 @@ fn read_count(bytes: &mut Vec<u8>, count: usize, byte: u8) -> Result<At, CaseFau
     Ok(At::Text)
 }
 
-fn digit(byte: u8) -> Result<u8, CaseFault> {
-    match byte {
-        b'0'..=b'9' => Ok(byte - b'0'),
-        b'a'..=b'f' => Ok(byte - b'a' + 10),
-        _ => Err(CaseFault::Unread),
-    }
-}
-
 /// Adds bytes to a text as one line shows them: a backslash, a newline and the other control bytes as escapes, and
 /// each other byte as it is.
 pub fn escaped(out: &mut Out, bytes: &[u8]) {
@@ -107,13 +100,5 @@ fn push_byte(out: &mut Out, byte: u8) {
         b'\t' => out.push(b"\\t"),
         0..=31 | 127 => out.push(&[b'\\', b'x', hex(byte / 16), hex(byte % 16)]),
         _ => out.push(&[byte]),
-    }
-}
-
-fn hex(nibble: u8) -> u8 {
-    match nibble {
-        0..=9 => b'0' + nibble,
-        10..=15 => b'a' + (nibble - 10),
-        _ => b'?',
     }
 }

@@ -4,7 +4,7 @@ use std::io;
 use td_layer::NoMem;
 
 /// Why a case has no answer.
-#[derive(Clone, Copy, Debug, PartialEq, Eq)]
+#[derive(Clone, Copy, Debug)]
 pub enum CaseFault {
     /// There was no memory.
     NoMemory,

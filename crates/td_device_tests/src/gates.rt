@@ -1,5 +1,6 @@
 //! What a gate counted, and whether it met its limit.
 use std::alloc::Global;
+use std::process::Abort;
 use std::test::Fail;
 use td_gate::{Hold, HoldGate};
 use td_layer::{NoMem, Seq};
@@ -18,11 +19,8 @@ const FIRST_START: Hold = Hold {
 
 /// A gate of these rules, which looks ten times.
 fn gate_of(alloc: Global, rules: &[Hold]) -> Result<HoldGate, NoMem> {
-    let mut list = Seq::new(alloc);
-    for rule in rules {
-        list.add(*rule)?;
-    }
-    HoldGate::new(alloc, list, 10)
+    let list = Vec::from_slice(alloc, rules)?;
+    HoldGate::new(alloc, Seq::from_vec(alloc, list), 10)
 }
 
 /// Whether a gate met its limit, at first and after these passes.
@@ -36,7 +34,23 @@ fn met_after(
     for (session, point) in passes {
         gate.pass(*session, *point);
     }
-    Ok((first, gate.met_limit()))
+    let last = gate.met_limit();
+    drop(gate);
+    Ok((first, last))
+}
+
+/// Asserts that a gate of these rules met its limit after these passes, or didn't, and that it hadn't at first.
+fn meets(
+    rt: &impl Abort,
+    alloc: Global,
+    case: usize,
+    rules: &[Hold],
+    passes: &[(u32, GatePoint)],
+    met: bool,
+) -> Result<(), NoMem> {
+    let seen = met_after(alloc, rules, passes)?;
+    assert_eq!(rt; seen, (false, met), "case {case}");
+    Ok(())
 }
 
 #[test]
@@ -57,11 +71,7 @@ fn a_gate_holds_until_another_session_is_there(rt: HostRuntime) -> Result<(), Fa
         (&[(65, Start), (4294967295, Start)], false),
     ];
     for (i, (passes, met)) in cases.iter().enumerate() {
-        assert_eq!(rt;
-            met_after(rt.alloc(), &rules, passes)?,
-            (false, *met),
-            "case {i}"
-        );
+        meets(&rt, rt.alloc(), i, &rules, passes, *met)?;
     }
     Ok(())
 }
@@ -121,11 +131,7 @@ fn a_rule_counts_times_from_one(rt: HostRuntime) -> Result<(), Fail> {
         (Hold { times: 2, ..itself }, &[(2, Start)], true),
     ];
     for (i, (rule, passes, met)) in cases.iter().enumerate() {
-        assert_eq!(rt;
-            met_after(rt.alloc(), &[*rule], passes)?,
-            (false, *met),
-            "case {i}"
-        );
+        meets(&rt, rt.alloc(), i, &[*rule], passes, *met)?;
     }
     Ok(())
 }
@@ -164,11 +170,7 @@ fn each_rule_is_looked_at(rt: HostRuntime) -> Result<(), Fail> {
         (&[met, FIRST_START], &[(2, Start)], true),
     ];
     for (i, (rules, passes, met)) in cases.iter().enumerate() {
-        assert_eq!(rt;
-            met_after(rt.alloc(), rules, passes)?,
-            (false, *met),
-            "case {i}"
-        );
+        meets(&rt, rt.alloc(), i, rules, passes, *met)?;
     }
     Ok(())
 }

@@ -16,9 +16,11 @@ fn a_source_fails_where_its_list_says(rt: HostRuntime) -> Result<(), Fail> {
     let faults = [0, 1, 1, 2, 2, 2];
     let first = [b'a', b'a', b'd', b'd', b'g', b'g'];
     for (i, answer) in answers.iter().enumerate() {
-        assert_eq!(rt; source.read(&mut buf), *answer);
-        assert_eq!(rt; source.faults(), faults[i]);
-        assert_eq!(rt; buf[0], first[i]);
+        let read = source.read(&mut buf);
+        assert_eq!(rt;
+            (read, source.faults(), buf[0]),
+            (*answer, faults[i], first[i])
+        );
     }
     Ok(())
 }
@@ -31,11 +33,12 @@ fn a_sink_fails_where_its_list_or_its_room_says(rt: HostRuntime) -> Result<(), F
     let answers = [Ok(4), Err(Failed), Ok(1), Err(Failed)];
     let faults = [0, 1, 1, 2];
     for (i, answer) in answers.iter().enumerate() {
-        assert_eq!(rt; sink.write(b"wxyz!"), *answer);
-        assert_eq!(rt; sink.faults(), faults[i]);
+        let written = sink.write(b"wxyz!");
+        assert_eq!(rt; (written, sink.faults()), (*answer, faults[i]));
     }
-    assert_eq!(rt; sink.write(b""), Ok(0));
-    assert_eq!(rt; sink.bytes(), b"wxyzw".as_slice());
+    let nothing = sink.write(b"");
+    assert_eq!(rt; (nothing, sink.bytes()), (Ok(0), b"wxyzw".as_slice()));
+    drop(sink);
     Ok(())
 }
 
@@ -47,8 +50,10 @@ fn a_clock_repeats_its_last_reading(rt: HostRuntime) -> Result<(), Fail> {
     for reading in [7, 5, LAST_TIMESTAMP, LAST_TIMESTAMP] {
         assert_eq!(rt; clock.now(), reading);
     }
+    drop(clock);
     let store = MemStore::new(alloc, Seq::new(alloc));
     let place = MemPlace::new(store, Seq::new(alloc));
     assert_eq!(rt; place.faults(), 0);
+    drop(place);
     Ok(())
 }

@@ -41,8 +41,10 @@ pub(crate) fn play_all<L: Ledger>(
 {
     let mut out = Out::new(alloc);
     let mut steps: Steps<L> = Steps::new(blank);
-    play_lines(&mut out, alloc, lines, &mut steps)?;
-    Ok(out.text()?)
+    let played = play_lines(&mut out, alloc, lines, &mut steps);
+    let text = out.text();
+    played?;
+    Ok(text?)
 }
 
 fn play_lines<L: Ledger>(
@@ -52,8 +54,20 @@ fn play_lines<L: Ledger>(
     steps: &mut Steps<L>,
 ) -> Result<(), CaseFault> {
     let mut player = Player::new(alloc);
+    let played = play_each(out, alloc, &mut player, lines, steps);
+    drop(player);
+    played
+}
+
+fn play_each<L: Ledger>(
+    out: &mut Out,
+    alloc: Global,
+    player: &mut Player,
+    lines: &[String],
+    steps: &mut Steps<L>,
+) -> Result<(), CaseFault> {
     for line in lines {
-        play(out, alloc, &mut player, line.as_str(), steps)?;
+        play(out, alloc, player, line.as_str(), steps)?;
     }
     Ok(())
 }

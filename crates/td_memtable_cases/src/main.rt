@@ -15,20 +15,17 @@ mod scans;
 mod shared_tree;
 
 use lines::play_all;
-use std::io::{self, BufRead, BufReader, BufWriter, Write};
 use std::marker::Brand;
 use std::sync::ledger::Blank;
-use td_cases::CaseFault;
+use td_cases::{CaseFault, lines_of, print};
 
 fn main(rt: HostRuntime) -> Result<(), CaseFault> {
     let alloc = rt.alloc();
-    let mut lines = Vec::new(alloc);
-    for line in BufReader::new(alloc, rt.reader())?.lines(alloc) {
-        lines.push(line?)?;
-    }
-    let shown = play_all::<Brand>(alloc, lines.as_slice(), Blank::new(1))?;
-    let mut output = BufWriter::new(alloc, io::writer(&rt))?;
-    output.write_all(shown.as_slice())?;
-    output.flush()?;
-    Ok(())
+    let lines = lines_of(&rt, alloc)?;
+    let shown = play_all::<Brand>(alloc, lines.as_slice(), Blank::new(1));
+    drop(lines);
+    let shown = shown?;
+    let printed = print(&rt, shown.as_slice());
+    drop(shown);
+    printed
 }

@@ -100,7 +100,9 @@ impl Player {
         let put = put_of(self.alloc, numbers)?;
         let birth = Birth { born: self.births };
         self.births = self.births.wrapping_add(1);
-        lay(&mut self.active, &put, birth)?;
+        let laid = lay(&mut self.active, &put, birth);
+        drop(put);
+        laid?;
         Ok(())
     }
 

@@ -31,6 +31,7 @@ pub(crate) fn push_cuts(out: &mut Out, memtable: &Memtable, table: u32) -> Resul
         out.number(i128::from(*hi));
         out.push(b"\n");
     }
+    drop(ranges);
     out.push(b"end\n");
     Ok(())
 }
@@ -48,13 +49,14 @@ fn push_next<L: Ledger>(
             Ok(false)
         }
         Ok(Some((key, put))) => {
-            push_put(out, key, put, scan.cut_at(key));
+            push_put(out, key, &put, scan.cut_at(key));
+            drop(put);
             Ok(true)
         }
     }
 }
 
-fn push_put(out: &mut Out, key: Key, put: Partial, is_cut: bool) {
+fn push_put(out: &mut Out, key: Key, put: &Partial, is_cut: bool) {
     out.number(i128::from(key.ts));
     out.push(b" born ");
     out.number(i128::from(put.birth.born));

@@ -16,7 +16,9 @@ fn with_pair(alloc: Global, tree: &Tree<u64>, ts: u64) -> Result<Tree<u64>, NoMe
 fn filled(alloc: Global, tree: &Tree<u64>, from: u32, n: u32) -> Result<Tree<u64>, NoMem> {
     let mut tree = tree.share()?;
     for i in 0..n {
-        tree = with_pair(alloc, &tree, u64::from(from) + 2 * u64::from(i))?;
+        let more = with_pair(alloc, &tree, u64::from(from) + 2 * u64::from(i));
+        drop(tree);
+        tree = more?;
     }
     Ok(tree)
 }
@@ -39,9 +41,19 @@ fn push_walked(out: &mut Out, name: &[u8], tree: &Tree<u64>) {
 /// Adds what the share of a tree of `n` pairs walks after `n` more were put, and what the tree walks.
 pub(crate) fn push_shared(out: &mut Out, alloc: Global, n: u32) -> Result<(), CaseFault> {
     let old = filled(alloc, &Tree::new(), 0, n)?;
+    let pushed = push_filled(out, alloc, &old, n);
+    drop(old);
+    pushed?;
+    Ok(())
+}
+
+fn push_filled(out: &mut Out, alloc: Global, old: &Tree<u64>, n: u32) -> Result<(), NoMem> {
     let kept = old.share()?;
-    let new = filled(alloc, &old, 1, n)?;
+    let new = filled(alloc, old, 1, n);
     push_walked(out, b"share ", &kept);
+    drop(kept);
+    let new = new?;
     push_walked(out, b"tree ", &new);
+    drop(new);
     Ok(())
 }

@@ -12,45 +12,28 @@ mod regions;
 mod windows;
 
 use std::alloc::Global;
-use std::io::{self, BufRead, BufReader, BufWriter, Write};
-use td_cases::{CaseFault, Out};
-use td_layer::Seq;
+use td_cases::{CaseFault, Cases, Out, play_cases};
 
 fn main(rt: HostRuntime) -> Result<(), CaseFault> {
-    let alloc = rt.alloc();
-    let input = BufReader::new(alloc, rt.reader())?;
-    let mut output = BufWriter::new(alloc, io::writer(&rt))?;
-    for line in input.lines(alloc) {
-        let shown = line_shown(alloc, line?.as_str())?;
-        output.write_all(shown.as_slice())?;
-    }
-    output.flush()?;
-    Ok(())
+    play_cases(&rt, rt.alloc(), &Triggers)
 }
 
-// What a line shows: the answer of a case, or itself, and a newline.
-fn line_shown(alloc: Global, line: &str) -> Result<Seq<u8>, CaseFault> {
-    let mut out = Out::new(alloc);
-    if line.is_empty() || line.starts_with('#') {
-        out.push(line.as_bytes());
-    } else {
-        let (kind, text) = line.split_once(' ').unwrap_or((line, ""));
-        match push_answer(&mut out, alloc, kind, text) {
-            Ok(()) => {}
-            Err(CaseFault::Unread) => out.push(b"unread"),
-            Err(fault) => return Err(fault),
+// Cases of triggers.
+struct Triggers;
+
+impl Cases for Triggers {
+    fn push_answer(
+        &self,
+        out: &mut Out,
+        alloc: Global,
+        kind: &str,
+        text: &str,
+    ) -> Result<(), CaseFault> {
+        match kind {
+            "region" => regions::push_regions(out, alloc, text),
+            "closed" => closing::push_closed(out, alloc, text),
+            "due" => closing::push_due(out, text),
+            _ => Err(CaseFault::Unread),
         }
-    }
-    out.push(b"\n");
-    Ok(out.text()?)
-}
-
-// Adds the answer of a case.
-fn push_answer(out: &mut Out, alloc: Global, kind: &str, text: &str) -> Result<(), CaseFault> {
-    match kind {
-        "region" => regions::push_regions(out, alloc, text),
-        "closed" => closing::push_closed(out, alloc, text),
-        "due" => closing::push_due(out, text),
-        _ => Err(CaseFault::Unread),
     }
 }

@@ -28,12 +28,22 @@ fn row_of(text: &str) -> Result<Row, CaseFault> {
 
 fn rows_of(alloc: Global, text: &str) -> Result<Vec<Row>, CaseFault> {
     let mut rows = Vec::new(alloc);
+    match push_rows(&mut rows, text) {
+        Ok(()) => Ok(rows),
+        Err(fault) => {
+            drop(rows);
+            Err(fault)
+        }
+    }
+}
+
+fn push_rows(rows: &mut Vec<Row>, text: &str) -> Result<(), CaseFault> {
     if !text.is_empty() {
         for word in text.split(' ') {
             rows.push(row_of(word)?)?;
         }
     }
-    Ok(rows)
+    Ok(())
 }
 
 fn one(row: Row) -> Tally
@@ -89,13 +99,27 @@ fn shown(alloc: Global, tally: &Tally) -> Result<Seq<u8>, CaseFault>
 /// another.
 pub(crate) fn push_aggregates(out: &mut Out, alloc: Global, text: &str) -> Result<(), CaseFault> {
     let rows = rows_of(alloc, text)?;
+    let pushed = push_aggregates_of(out, alloc, rows.as_slice());
+    drop(rows);
+    pushed
+}
+
+fn push_aggregates_of(out: &mut Out, alloc: Global, rows: &[Row]) -> Result<(), CaseFault> {
     if rows.len() >= MOST_ROWS {
         return Err(CaseFault::Unread);
     }
-    let whole = shown(alloc, &tally(rows.as_slice()))?;
+    let whole = shown(alloc, &tally(rows))?;
     out.push(whole.as_slice());
+    let pushed = push_cuts(out, alloc, rows, whole.as_slice());
+    drop(whole);
+    pushed
+}
+
+fn push_cuts(out: &mut Out, alloc: Global, rows: &[Row], whole: &[u8]) -> Result<(), CaseFault>
+    requires { length rows.now < MOST_ROWS }
+{
     for at in 0..rows.len() {
-        push_cut(out, alloc, rows.as_slice(), at, whole.as_slice())?;
+        push_cut(out, alloc, rows, at, whole)?;
     }
     Ok(())
 }
@@ -114,11 +138,21 @@ fn push_cut(
 {
     let (front, back) = rows.split_at(at);
     let (front, back) = (tally(front), tally(back));
-    let merged = shown(alloc, &front.merge(&back))?;
-    let turned = shown(alloc, &back.merge(&front))?;
-    if merged.as_slice() != whole || turned.as_slice() != whole {
+    let merged = shows(alloc, &front.merge(&back), whole)?;
+    let turned = shows(alloc, &back.merge(&front), whole)?;
+    if !(merged && turned) {
         out.push(b" another at ");
         out.number(at as i128);
     }
     Ok(())
+}
+
+// Whether a tally shows this.
+fn shows(alloc: Global, tally: &Tally, whole: &[u8]) -> Result<bool, CaseFault>
+    requires { IsSound tally.now }
+{
+    let text = shown(alloc, tally)?;
+    let same = text.as_slice() == whole;
+    drop(text);
+    Ok(same)
 }

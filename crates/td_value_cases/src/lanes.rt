@@ -4,7 +4,7 @@ ghost use Rattle.td_cols.specs.Lanes.{is_lane_width};
 
 use crate::lists::whole;
 use std::alloc::Global;
-use td_cases::{CaseFault, Out, unescaped};
+use td_cases::{CaseFault, Out, push_hex, unescaped};
 use td_cols::{Kind, Lane, code, in_range, load, store, width};
 
 fn kind_of(word: &str) -> Result<Kind, CaseFault> {
@@ -24,20 +24,6 @@ fn kind_of(word: &str) -> Result<Kind, CaseFault> {
         _ => return Err(CaseFault::Unread),
     };
     Ok(kind)
-}
-
-fn hex(nibble: u8) -> u8 {
-    match nibble {
-        0..=9 => b'0' + nibble,
-        10..=15 => b'a' + (nibble - 10),
-        _ => b'?',
-    }
-}
-
-fn push_hex(out: &mut Out, bytes: &[u8]) {
-    for byte in bytes {
-        out.push(&[hex(*byte / 16), hex(*byte % 16)]);
-    }
 }
 
 /// `kind KIND`: the kind's code, and the bytes of each of its numbers.
@@ -72,11 +58,19 @@ pub(crate) fn push_loaded(out: &mut Out, alloc: Global, text: &str) -> Result<()
     let (word, escapes) = text.split_once(' ').unwrap_or((text, ""));
     let kind = kind_of(word)?;
     let bytes = unescaped(alloc, escapes)?;
-    let Some(n) = loaded(kind, bytes.as_slice()) else {
-        return Err(CaseFault::Unread);
-    };
-    out.number(n);
-    Ok(())
+    let found = loaded(kind, bytes.as_slice());
+    drop(bytes);
+    push_found(out, found)
+}
+
+fn push_found(out: &mut Out, found: Option<i128>) -> Result<(), CaseFault> {
+    match found {
+        Some(n) => {
+            out.number(n);
+            Ok(())
+        }
+        None => Err(CaseFault::Unread),
+    }
 }
 
 fn loaded(kind: Kind, bytes: &[u8]) -> Option<i128> {
@@ -126,11 +120,8 @@ pub(crate) fn push_got(out: &mut Out, alloc: Global, text: &str) -> Result<(), C
         "u16" => got::<16, false>(bytes.as_slice()),
         _ => None,
     };
-    match found {
-        Some(n) => out.number(n),
-        None => return Err(CaseFault::Unread),
-    }
-    Ok(())
+    drop(bytes);
+    push_found(out, found)
 }
 
 fn got<const W: usize, const S: bool>(bytes: &[u8]) -> Option<i128>

@@ -69,6 +69,24 @@ pub(crate) fn push_cell(out: &mut Out, cell: &Cell) {
 /// `+` in its place; what is popped then, how many are left, and what stands at the places 1 and 20.
 pub(crate) fn push_list(out: &mut Out, alloc: Global, text: &str) -> Result<(), CaseFault> {
     let mut list = Seq::of_bytes(alloc, text.as_bytes())?;
+    let shown = push_changed(out, &mut list);
+    drop(list);
+    end(alloc);
+    shown
+}
+
+fn push_changed(out: &mut Out, list: &mut Name) -> Result<(), CaseFault> {
+    change(list)?;
+    push_copy(out, list)?;
+    push_byte(out, list.pop());
+    out.push(b" ");
+    out.number(list.len() as i128);
+    push_byte(out, list.get(1).copied());
+    push_byte(out, list.get(20).copied());
+    Ok(())
+}
+
+fn change(list: &mut Name) -> Result<(), CaseFault> {
     if list.push(b's').is_err() {
         return Err(CaseFault::NoMemory);
     }
@@ -77,14 +95,13 @@ pub(crate) fn push_list(out: &mut Out, alloc: Global, text: &str) -> Result<(), 
     if !list.is_empty() {
         list.set(0, b'+');
     }
+    Ok(())
+}
+
+fn push_copy(out: &mut Out, list: &Name) -> Result<(), CaseFault> {
     let copy = list.copy()?;
     out.push(copy.as_slice());
-    push_byte(out, list.pop());
-    out.push(b" ");
-    out.number(list.len() as i128);
-    push_byte(out, list.get(1).copied());
-    push_byte(out, list.get(20).copied());
-    end(alloc);
+    drop(copy);
     Ok(())
 }
 
@@ -104,56 +121,97 @@ fn end(alloc: Global) {
 /// `roomy N N ..`: the numbers as a list with room for all of them keeps them, and then as they are taken off.
 pub(crate) fn push_roomy(out: &mut Out, alloc: Global, text: &str) -> Result<(), CaseFault> {
     let mut list = Roomy::new(alloc);
+    match fill(&mut list, text) {
+        Ok(()) => {
+            push_kept(out, list.as_slice());
+            push_taken(out, list, text.len());
+            Ok(())
+        }
+        Err(fault) => {
+            drop(list);
+            Err(fault)
+        }
+    }
+}
+
+fn fill(list: &mut Roomy<u64>, text: &str) -> Result<(), CaseFault> {
     list.reserve(text.len())?;
     for word in text.split(' ') {
         if list.push(number(word)?).is_err() {
             return Err(CaseFault::NoMemory);
         }
     }
-    for n in list.as_slice() {
+    Ok(())
+}
+
+fn push_kept(out: &mut Out, numbers: &[u64]) {
+    for n in numbers {
         out.number(i128::from(*n));
         out.push(b" ");
     }
     out.push(b"off:");
-    for _ in 0..text.len() {
+}
+
+// Takes so many numbers off, or as many as there are.
+fn push_taken(out: &mut Out, mut list: Roomy<u64>, most: usize) {
+    for _ in 0..most {
         let Some(n) = list.pop() else {
             list.done();
-            return Ok(());
+            return;
         };
         out.push(b" ");
         out.number(i128::from(n));
     }
-    Ok(())
+    drop(list);
 }
 
 /// `cells CELL,CELL ..`: copies of cells.
 pub(crate) fn push_copies(out: &mut Out, alloc: Global, text: &str) -> Result<(), CaseFault> {
-    let mut cells = Vec::new(alloc);
+    let mut cells = Seq::new(alloc);
+    let shown = push_copies_of(out, alloc, &mut cells, text);
+    drop(cells);
+    shown
+}
+
+fn push_copies_of(
+    out: &mut Out,
+    alloc: Global,
+    cells: &mut Seq<Cell>,
+    text: &str,
+) -> Result<(), CaseFault> {
     for word in text.split(',') {
-        cells.push(cell_of(alloc, word)?)?;
+        cells.add(cell_of(alloc, word)?)?;
     }
-    let copies = Seq::from_vec(alloc, cells).copy()?;
+    let copies = cells.copy()?;
     for cell in copies.as_slice() {
         push_cell(out, cell);
         out.push(b";");
     }
+    drop(copies);
     Ok(())
 }
 
 /// `row BORN VALUE VALUE ..`: a copy of a row.
 pub(crate) fn push_row(out: &mut Out, alloc: Global, text: &str) -> Result<(), CaseFault> {
     let row = row_of(alloc, text)?;
-    let copy = row.copy()?;
+    let copied = row.copy();
+    drop(row);
+    let copy = copied?;
     out.push(b"born ");
     out.number(i128::from(copy.birth.born));
-    for value in copy.values.as_slice() {
+    push_values(out, copy.values.as_slice());
+    drop(copy);
+    Ok(())
+}
+
+fn push_values(out: &mut Out, values: &[Value]) {
+    for value in values {
         out.push(b" ");
         match value {
             Value::Null => out.push(b"NULL"),
             Value::Num(n) => out.number(*n),
         }
     }
-    Ok(())
 }
 
 fn row_of(alloc: Global, text: &str) -> Result<Row, CaseFault> {

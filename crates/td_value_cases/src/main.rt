@@ -13,59 +13,40 @@ mod tags;
 mod windows;
 
 use std::alloc::Global;
-use std::io::{self, BufRead, BufReader, BufWriter, Write};
-use td_cases::{CaseFault, Out, escaped};
-use td_layer::Seq;
+use td_cases::{CaseFault, Cases, Out, play_cases};
 
 fn main(rt: HostRuntime) -> Result<(), CaseFault> {
-    let alloc = rt.alloc();
-    let input = BufReader::new(alloc, rt.reader())?;
-    let mut output = BufWriter::new(alloc, io::writer(&rt))?;
-    for line in input.lines(alloc) {
-        let shown = line_shown(alloc, line?.as_str())?;
-        output.write_all(shown.as_slice())?;
-    }
-    output.flush()?;
-    Ok(())
+    play_cases(&rt, rt.alloc(), &Values)
 }
 
-// What a line shows: the answer of a case, or itself, and a newline.
-fn line_shown(alloc: Global, line: &str) -> Result<Seq<u8>, CaseFault> {
-    let mut out = Out::new(alloc);
-    if line.is_empty() || line.starts_with('#') {
-        out.push(line.as_bytes());
-    } else {
-        let (kind, text) = line.split_once(' ').unwrap_or((line, ""));
-        match answer(alloc, kind, text) {
-            Ok(found) => escaped(&mut out, found.as_slice()),
-            Err(CaseFault::Unread) => out.push(b"unread"),
-            Err(fault) => return Err(fault),
+// Cases of values.
+struct Values;
+
+impl Cases for Values {
+    fn push_answer(
+        &self,
+        out: &mut Out,
+        alloc: Global,
+        kind: &str,
+        text: &str,
+    ) -> Result<(), CaseFault> {
+        match kind {
+            "list" => lists::push_list(out, alloc, text),
+            "roomy" => lists::push_roomy(out, alloc, text),
+            "cells" => lists::push_copies(out, alloc, text),
+            "row" => lists::push_row(out, alloc, text),
+            "kind" => lanes::push_kind(out, text),
+            "store" => lanes::push_stored(out, text),
+            "load" => lanes::push_loaded(out, alloc, text),
+            "put" => lanes::push_put(out, text),
+            "get" => lanes::push_got(out, alloc, text),
+            "aggregate" => aggregates::push_aggregates(out, alloc, text),
+            "interval" => windows::push_intervals(out, alloc, text),
+            "session" => windows::push_sessions(out, alloc, text),
+            "state" => windows::push_states(out, alloc, text),
+            "tags" => tags::push_found(out, alloc, text),
+            "each" => tags::push_each(out, alloc, text),
+            _ => Err(CaseFault::Unread),
         }
     }
-    out.push(b"\n");
-    Ok(out.text()?)
-}
-
-// The answer of a case.
-fn answer(alloc: Global, kind: &str, text: &str) -> Result<Seq<u8>, CaseFault> {
-    let mut out = Out::new(alloc);
-    match kind {
-        "list" => lists::push_list(&mut out, alloc, text)?,
-        "roomy" => lists::push_roomy(&mut out, alloc, text)?,
-        "cells" => lists::push_copies(&mut out, alloc, text)?,
-        "row" => lists::push_row(&mut out, alloc, text)?,
-        "kind" => lanes::push_kind(&mut out, text)?,
-        "store" => lanes::push_stored(&mut out, text)?,
-        "load" => lanes::push_loaded(&mut out, alloc, text)?,
-        "put" => lanes::push_put(&mut out, text)?,
-        "get" => lanes::push_got(&mut out, alloc, text)?,
-        "aggregate" => aggregates::push_aggregates(&mut out, alloc, text)?,
-        "interval" => windows::push_intervals(&mut out, alloc, text)?,
-        "session" => windows::push_sessions(&mut out, alloc, text)?,
-        "state" => windows::push_states(&mut out, alloc, text)?,
-        "tags" => tags::push_found(&mut out, alloc, text)?,
-        "each" => tags::push_each(&mut out, alloc, text)?,
-        _ => return Err(CaseFault::Unread),
-    }
-    Ok(out.text()?)
 }

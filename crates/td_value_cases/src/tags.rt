@@ -1,4 +1,6 @@
 //! Indexes of many subtables.
+ghost use Rattle.std.specs.Prelude.{◌≡◌, []};
+
 use crate::lists::cell_of;
 use std::alloc::Global;
 use td_cases::{CaseFault, Out};
@@ -44,12 +46,24 @@ fn tag_of(alloc: Global, tags: Tags, table: u32) -> Result<Cell, NoMem> {
 // An index of the subtables from 1 to below `end`, each of one tag.
 fn filled(alloc: Global, tags: Tags, end: u32) -> Result<TagIndex, NoMem> {
     let mut index = TagIndex::empty(alloc);
+    match fill(&mut index, alloc, tags, end) {
+        Ok(()) => Ok(index),
+        Err(NoMem) => {
+            drop(index);
+            Err(NoMem)
+        }
+    }
+}
+
+fn fill(index: &mut TagIndex, alloc: Global, tags: Tags, end: u32) -> Result<(), NoMem>
+    requires { index.old.subtables ≡ [] }
+{
     for table in 1..end {
         let tags = [tag_of(alloc, tags, table)?];
         let change = index.prepare(table, &tags)?;
         index.add(change);
     }
-    Ok(index)
+    Ok(())
 }
 
 fn op_of(word: &str) -> Result<Op, CaseFault> {
@@ -73,13 +87,25 @@ fn op_of(word: &str) -> Result<Op, CaseFault> {
 /// subtables pass, and the first two of them.
 pub(crate) fn push_found(out: &mut Out, alloc: Global, text: &str) -> Result<(), CaseFault> {
     let mut words = text.split('|');
-    let index = match words.next() {
-        Some("fifths") => filled(alloc, Tags::Fifths, 10_001)?,
-        Some("texts") => filled(alloc, Tags::Texts, 301)?,
+    let (tags, end) = match words.next() {
+        Some("fifths") => (Tags::Fifths, 10_001),
+        Some("texts") => (Tags::Texts, 301),
         _ => return Err(CaseFault::Unread),
     };
-    for word in words {
-        push_comparison(out, alloc, &index, word)?;
+    let index = filled(alloc, tags, end)?;
+    let shown = push_comparisons(out, alloc, &index, text);
+    drop(index);
+    shown
+}
+
+fn push_comparisons(
+    out: &mut Out,
+    alloc: Global,
+    index: &TagIndex,
+    text: &str,
+) -> Result<(), CaseFault> {
+    for word in text.split('|').skip(1) {
+        push_comparison(out, alloc, index, word)?;
     }
     Ok(())
 }
@@ -95,7 +121,9 @@ fn push_comparison(
     let place = place.parse::<usize>().map_err(|_| CaseFault::Unread)?;
     let op = op_of(words.next().unwrap_or(""))?;
     let cell = cell_of(alloc, words.next().unwrap_or("NULL"))?;
-    let numbers = index.find(place, op, &cell)?;
+    let found = index.find(place, op, &cell);
+    drop(cell);
+    let numbers = found?;
     out.number(numbers.len() as i128);
     for number in numbers.as_slice().iter().take(2) {
         out.push(b" ");
@@ -111,6 +139,12 @@ pub(crate) fn push_each(out: &mut Out, alloc: Global, text: &str) -> Result<(), 
     let index = filled(alloc, Tags::Own, 10_001)?;
     out.push(b"not found alone:");
     out.push(text.as_bytes());
+    let shown = push_not_alone(out, &index);
+    drop(index);
+    shown
+}
+
+fn push_not_alone(out: &mut Out, index: &TagIndex) -> Result<(), CaseFault> {
     for table in 1..10_001_u32 {
         let numbers = index.find(0, Op::Eq, &Cell::Num(i128::from(table)))?;
         if numbers.as_slice() != [table].as_slice() {

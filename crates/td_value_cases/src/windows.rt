@@ -19,12 +19,22 @@ fn is_cuttable(ts: &[u64]) -> bool
 
 fn numbers_of(alloc: Global, text: &str) -> Result<Vec<u64>, CaseFault> {
     let mut numbers = Vec::new(alloc);
+    match push_numbers(&mut numbers, text) {
+        Ok(()) => Ok(numbers),
+        Err(fault) => {
+            drop(numbers);
+            Err(fault)
+        }
+    }
+}
+
+fn push_numbers(numbers: &mut Vec<u64>, text: &str) -> Result<(), CaseFault> {
     if !text.is_empty() {
         for word in text.split(' ') {
             numbers.push(number(word)?)?;
         }
     }
-    Ok(numbers)
+    Ok(())
 }
 
 // Adds each window: its start, its end, the place of its first row, and how many rows it has.
@@ -49,7 +59,9 @@ pub(crate) fn push_intervals(out: &mut Out, alloc: Global, text: &str) -> Result
     let offset = number(words.next().unwrap_or(""))?;
     let slide = number(words.next().unwrap_or(""))?;
     let ts = numbers_of(alloc, ts)?;
-    push_windows(out, alloc, ts.as_slice(), len, offset, slide)
+    let pushed = push_windows(out, alloc, ts.as_slice(), len, offset, slide);
+    drop(ts);
+    pushed
 }
 
 fn push_windows(
@@ -65,6 +77,7 @@ fn push_windows(
     }
     let spans = interval(alloc, ts, len, offset, slide)?;
     push_spans(out, spans.as_slice());
+    drop(spans);
     Ok(())
 }
 
@@ -73,11 +86,23 @@ pub(crate) fn push_sessions(out: &mut Out, alloc: Global, text: &str) -> Result<
     let (tolerance, ts) = text.split_once('|').unwrap_or((text, ""));
     let tolerance = number(tolerance)?;
     let ts = numbers_of(alloc, ts)?;
-    if !is_cuttable(ts.as_slice()) {
+    let pushed = push_sessions_of(out, alloc, ts.as_slice(), tolerance);
+    drop(ts);
+    pushed
+}
+
+fn push_sessions_of(
+    out: &mut Out,
+    alloc: Global,
+    ts: &[u64],
+    tolerance: u64,
+) -> Result<(), CaseFault> {
+    if !is_cuttable(ts) {
         return Err(CaseFault::Unread);
     }
-    let spans = session(alloc, ts.as_slice(), tolerance)?;
+    let spans = session(alloc, ts, tolerance)?;
     push_spans(out, spans.as_slice());
+    drop(spans);
     Ok(())
 }
 
@@ -85,12 +110,22 @@ pub(crate) fn push_sessions(out: &mut Out, alloc: Global, text: &str) -> Result<
 pub(crate) fn push_states(out: &mut Out, alloc: Global, text: &str) -> Result<(), CaseFault> {
     let mut ts = Vec::new(alloc);
     let mut values = Vec::new(alloc);
+    let pushed = match push_pairs(&mut ts, &mut values, text) {
+        Ok(()) => push_states_of(out, alloc, ts.as_slice(), values.as_slice()),
+        Err(fault) => Err(fault),
+    };
+    drop(ts);
+    drop(values);
+    pushed
+}
+
+fn push_pairs(ts: &mut Vec<u64>, values: &mut Vec<Value>, text: &str) -> Result<(), CaseFault> {
     for word in text.split(' ') {
         let (at, value) = word.split_once('=').unwrap_or((word, ""));
         ts.push(number(at)?)?;
         values.push(value_of(value)?)?;
     }
-    push_states_of(out, alloc, ts.as_slice(), values.as_slice())
+    Ok(())
 }
 
 fn push_states_of(
@@ -104,5 +139,6 @@ fn push_states_of(
     }
     let spans = state(alloc, ts, values)?;
     push_spans(out, spans.as_slice());
+    drop(spans);
     Ok(())
 }

@@ -6,7 +6,7 @@ use Rattle.std.proofs.lemmas.List.Elements.{All-weaker}
 use Rattle.std.proofs.lemmas.Map.Views.{All-keys-insert_entry}
 use Rattle.td_tagidx.specs.Indexed.{Subtables}
 use Rattle.td_value_cases.proofs.Absent.{absent_above}
-use Rattle.td_value_cases.proofs.tags.filled.Goals as goal
+use Rattle.td_value_cases.proofs.tags.fill.Goals as goal
 
 pub prepare-requires : goal.prepare-requires
 prepare-requires c = absent_above c.loop-table.table c.loop-table.index.subtables c.loop-table.invariant
