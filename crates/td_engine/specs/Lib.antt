@@ -1,0 +1,6 @@
+pub mod CoreState
+pub mod Covers
+pub mod Submits
+pub mod Carrying
+pub mod Commits
+pub mod Installs
