@@ -78,7 +78,7 @@ freeze_keeps old new (freeze.Frozen f) is = is.keeps
 freeze_keeps old new freeze.Nothing is = all_kept old new is.4
 freeze_keeps old new (freeze.Busy version) is = all_kept old new is.2
 freeze_keeps old new (freeze.Stopped version) is = all_kept old new is.1
-freeze_keeps old new freeze.NoMemory is = all_kept old new is
+freeze_keeps old new freeze.NoMemory is = all_kept old new is.2
 
 -- the levels stay, or the active memtable is frozen
 abbrev LevelsGo : CoreState → CoreState → Type 0
@@ -89,7 +89,7 @@ levels_go old new (freeze.Frozen f) is = elim is.which [ inl now ↦ inr (now.0,
 levels_go old new freeze.Nothing is = inl (ap (λ (c : CoreState). c.levels) is.4)
 levels_go old new (freeze.Busy version) is = inl (ap (λ (c : CoreState). c.levels) is.2)
 levels_go old new (freeze.Stopped version) is = inl (ap (λ (c : CoreState). c.levels) is.1)
-levels_go old new freeze.NoMemory is = inl (ap (λ (c : CoreState). c.levels) is)
+levels_go old new freeze.NoMemory is = inl (ap (λ (c : CoreState). c.levels) is.2)
 
 -- the core as it was, but for its levels, the log that is written and what is out
 abbrev but_levels : CoreState → CoreState → CoreState

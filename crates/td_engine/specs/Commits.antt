@@ -111,7 +111,7 @@ Freezes old new freeze.Nothing =
 Freezes old new (freeze.Busy version) =
     (old.state.halt ≡ None) × ((f : Flight) × (old.flight ≡ Some f) × (version ≡ f.version)) × (new ≡ old)
 Freezes old new (freeze.Stopped version) = (old.state.halt ≡ Some version) × (new ≡ old)
-Freezes old new freeze.NoMemory = new ≡ old
+Freezes old new freeze.NoMemory = (old.state.halt ≡ None) × (old.flight ≡ None) × (new ≡ old)
 
 -- ---- thaws
 

@@ -1,5 +1,5 @@
 //! Freezing the active memtable, and files in making.
-ghost use Rattle.std.specs.Prelude.{◌≡◌, ◌↔◌, ◌≤◌, ℕ, Option, List, [], take, length, All, None, Some, ◌≢◌, IsTrue, IfOk, OnErr, MatchOption};
+ghost use Rattle.std.specs.Prelude.{◌≡◌, ◌↔◌, ◌≤◌, ℕ, Option, List, [], take, length, map, sum, All, None, Some, ◌≢◌, IsTrue, IfOk, OnErr, MatchOption};
 ghost use Rattle.std.specs.Option.{option_map};
 ghost use Rattle.td_model.specs.declared.history.Entry.{Entry as AnEntry};
 ghost use Rattle.td_model.specs.State.{State};
@@ -231,12 +231,12 @@ impl<S: Store, C: Clock> Core<S, C> {
         create_all(self.alloc, &mut self.store, count)
     }
 
-    /// Gives unfinished files up.
+    /// Gives unfinished files up. The faults of their writers become the store's.
     pub fn abandon_files(&mut self, files: Seq<S::Writer>)
         ensures same { KeepsButStore (seen S.told S.count C.readings self.old)
             (seen S.told S.count C.readings self.new) }
         ensures image { Along KeepsFiles (S.told self.old.store) (S.told self.new.store) }
-        ensures count { raised (S.count self.old.store) 0 ≤ S.count self.new.store }
+        ensures count { raised (S.count self.old.store) (sum (map S.Writer.count files)) ≤ S.count self.new.store }
         ensures rows { (b : State) (h : List AnEntry) → RowsAre (seen S.told S.count C.readings self.old) b h
             → RowsAre (seen S.told S.count C.readings self.new) b h }
         ensures pinned { PinsAre (seen S.told S.count C.readings self.old)

@@ -1,11 +1,12 @@
 -- What calls on a store leave of its image.
-use Rattle.std.proofs.Common.{◌≡◌, ℕ, ◌≤◌, Bool, true, false, cond, nat_eq, List, [], ◌∷◌, ◌++◌, map, reverse, take, drop, length, Option, Some, None, All, refl, sym, ap, subst, ◌∙◌, arith, append_assoc}
-use Rattle.std.specs.Prelude.{IsSome, IfSome}
+use Rattle.std.proofs.Common.{◌≡◌, ℕ, ◌+◌, ◌≤◌, Bool, true, false, cond, nat_eq, List, [], ◌∷◌, ◌++◌, map, reverse, take, drop, length, Option, Some, None, All, refl, sym, ap, subst, ◌∙◌, arith, append_assoc}
+use Rattle.std.specs.Prelude.{IsSome, IfSome, sum, sum_by}
 use Rattle.std.specs.List.{AllByRecursion}
 use Rattle.std.proofs.lemmas.Bool.{eq-eqb, eqb-false, eqb-true, false≢true, ne_eqb, or_from, or_parts}
 use Rattle.std.proofs.lemmas.List.{reverse-append}
 use Rattle.std.proofs.lemmas.List.Elements.{All-cons, All-from_recursion, All-nil, recursion_from_All}
 use Rattle.std.proofs.lemmas.List.{take-append-drop}
+use Rattle.std.proofs.lemmas.List.Sums.{sum-map, sum_by_push}
 use Rattle.td_outside.specs.Causes.{Rose, raised}
 use Rattle.td_outside.specs.Image.{Along, Becomes, Image, put}
 use Rattle.td_outside.specs.Files.{Finishes, GivesUp, IsFinished, after_create, lists}
@@ -266,3 +267,13 @@ later_rose a b c h k = omega arith
 
 pub later_self : (a : ℕ) → raised a 0 ≤ a
 later_self a = omega arith
+
+-- the count is at least what it was, whatever it took over
+pub over_later : (a n b : ℕ) → raised a n ≤ b → raised a 0 ≤ b
+over_later a n b h = omega arith
+
+-- the last of the writers that are left is given up
+pub over_more : {W : Type 0} (f : W → ℕ) (old new : List W) (w : W) (a b c : ℕ) → old ≡ new ++ w ∷ [] → a ≤ raised b (sum (map f old)) → raised b (f w) ≤ c → a ≤ raised c (sum (map f new))
+over_more f old new w a b c pop h over =
+    let last : sum_by f old ≡ sum_by f new + f w = ap (sum_by f) pop ∙ sum_by_push f new w in
+    omega (arith, sum-map f old, sum-map f new, last, h, over)

@@ -1,5 +1,5 @@
 //! Files in making.
-ghost use Rattle.std.specs.Prelude.{◌≡◌, ◌≤◌, ◌+◌, [], map, length, All, IsSome, IfOk, IfSome, OnOk, OnErr, IsErrOf};
+ghost use Rattle.std.specs.Prelude.{◌≡◌, ◌≤◌, ◌+◌, [], map, sum, length, All, IsSome, IfOk, IfSome, OnOk, OnErr, IsErrOf};
 ghost use Rattle.std.specs.Option.{option_map};
 ghost use Rattle.td_outside.specs.Causes.{Rose, raised};
 ghost use Rattle.td_outside.specs.Image.{Along};
@@ -10,10 +10,10 @@ use std::alloc::Global;
 use td_layer::Seq;
 use td_outside::{IoFault, Store};
 
-/// Gives unfinished files up.
+/// Gives unfinished files up. The faults of their writers become the store's.
 pub fn abandon_all<S: Store>(store: &mut S, files: Seq<S::Writer>)
     ensures image { Along SameHeld (S.told store.old) (S.told store.new) }
-    ensures count { raised (S.count store.old) 0 ≤ S.count store.new }
+    ensures count { raised (S.count store.old) (sum (map S.Writer.count files)) ≤ S.count store.new }
 {
     let mut files = files;
     while let Some(file) = files.pop() {

@@ -1,0 +1,3 @@
+pub mod Writers
+pub mod Points
+pub mod Ends
